@@ -9,14 +9,15 @@ mod troubles;
 
 pub use change_replay;
 pub use change_replay::aci_item;
-pub use changing::{Applied, ChangesCause, ChangesFault, Loaded};
+pub use changing::{Applied, ChangesCause, ChangesFault, Loaded, head_of};
 pub use client_core;
 pub use data_file;
 pub use data_file::{ldif_load, ldif_records};
 pub use dir_tree;
 pub use dir_tree::dn_names;
 pub use loading::{
-    SecondFile, Trouble, load_asks, load_certificate, load_data, load_script, load_tree,
+    DataFile, SecondFile, Trouble, load_asks, load_certificate, load_changes, load_data, load_file,
+    load_script, load_tree,
 };
 pub use troubles::put_trouble;
 pub use wire_io;

@@ -4,7 +4,7 @@ ghost use Rattle.std.specs.Prelude.{◌≡◌, ◌≤◌, Some, None, length, op
 ghost use Rattle.change_replay.specs.aci_item.Rules.{IsGoodTree};
 ghost use Rattle.dir_tree.specs.tree.Numbered.{entries_of};
 ghost use Rattle.command_files.specs.loading.Accepting.{most_data, most_second};
-ghost use Rattle.command_files.specs.loading.Loading.{LoadsBeside, LoadsCertificate, LoadsChanges, LoadsRequests, LoadsScript, LoadsData, LoadsTree, ReadsChanges, ReadsRequests, ReadsScript, ReadsData, changes_trouble_of_file, data_trouble_of_file, trouble_of_asks, trouble_of_changes, trouble_of_data, trouble_of_file, trouble_of_script};
+ghost use Rattle.command_files.specs.loading.Loading.{LoadsCertificate, LoadsChanges, LoadsFile, LoadsRequests, LoadsScript, LoadsData, LoadsTree, ReadsChanges, ReadsRequests, ReadsScript, ReadsData, ReadsFile, changes_trouble_of_file, data_trouble_of_file, trouble_of_asks, trouble_of_changes, trouble_of_data, trouble_of_file, trouble_of_script};
 
 use crate::changing::{ChangesCause, ChangesFault, Loaded, change_tree};
 use client_core::{AskFault, Asked, read_asks};
@@ -48,6 +48,13 @@ pub enum Trouble {
     BadChanges(u64, ChangesCause),
     /// There was no memory.
     NoMemory,
+}
+
+/// A data file that was loaded.
+#[derive(Drop)]
+pub struct DataFile {
+    pub content: Vec<u8>,
+    pub tree: Tree,
 }
 
 /// The tree of the data file.
@@ -133,31 +140,39 @@ fn load_changed<H: Shelf>(
     ensures exact { LoadsTree (H.files shelf.old) name.now (Some changes.now) (H.faults shelf.old) (H.faults shelf.new) result }
     ensures kept { H.files shelf.new ≡ H.files shelf.old }
 {
-    match read_all(alloc, shelf, name, MOST_DATA) {
-        Ok(content) => load_beside(alloc, shelf, content.as_slice(), changes),
-        Err(fault) => Err(unread_data(fault)),
-    }
-}
-
-/// The same with the content of the data file.
-fn load_beside<H: Shelf>(
-    alloc: Global,
-    shelf: &mut H,
-    content: &[u8],
-    changes: &str,
-) -> Result<Loaded, Trouble>
-    requires { length content.now ≤ most_data }
-    ensures exact { LoadsBeside content.now (H.files shelf.old) changes.now (H.faults shelf.old) (H.faults shelf.new) result }
-    ensures kept { H.files shelf.new ≡ H.files shelf.old }
-{
-    match read_data(alloc, content) {
-        Ok(tree) => load_changes(alloc, shelf, tree, content, changes),
+    match load_file(alloc, shelf, name) {
+        Ok(DataFile { content, tree }) => {
+            load_changes(alloc, shelf, tree, content.as_slice(), changes)
+        },
         Err(trouble) => Err(trouble),
     }
 }
 
-/// The tree of the data file of this content, with the changes of the file applied.
-fn load_changes<H: Shelf>(
+/// The tree of the data file, with its content.
+pub fn load_file<H: Shelf>(alloc: Global, shelf: &mut H, name: &str) -> Result<DataFile, Trouble>
+    ensures exact { LoadsFile (H.files shelf.old) name.now (H.faults shelf.old) (H.faults shelf.new) result }
+    ensures kept { H.files shelf.new ≡ H.files shelf.old }
+{
+    match read_all(alloc, shelf, name, MOST_DATA) {
+        Ok(content) => read_file(alloc, content),
+        Err(fault) => Err(unread_data(fault)),
+    }
+}
+
+/// The same of the data file's text.
+fn read_file(alloc: Global, content: Vec<u8>) -> Result<DataFile, Trouble>
+    requires { length content.items ≤ most_data }
+    ensures exact { ReadsFile content.items result }
+{
+    match read_data(alloc, content.as_slice()) {
+        Ok(tree) => Ok(DataFile { content, tree }),
+        Err(trouble) => Err(trouble),
+    }
+}
+
+/// The tree of the data file of this content, with the changes of the file of the name applied, up to a torn end. `BadChanges`
+/// tells the first line at which that isn't accepted, and `NoFile` that it isn't there or that the shelf could not read it.
+pub fn load_changes<H: Shelf>(
     alloc: Global,
     shelf: &mut H,
     tree: Tree,

@@ -7,7 +7,7 @@ use Rattle.wire_io.specs.Files.{Files, file_of, Lacks}
 use Rattle.client_core.specs.declared.types.Asked.{Asked}
 use Rattle.dir_tree.specs.Entry.{EntryInformation}
 use Rattle.data_file.specs.ldif_load.load.DataFile.{FileCause}
-use Rattle.command_files.specs.loading.Accepting.{IsUnread, IsGoodData, IsBadData, IsGoodScript, IsBadScript, IsGoodRequests, IsBadRequests, HoldsOf, HoldsIn, IsTold}
+use Rattle.command_files.specs.loading.Accepting.{IsUnread, IsGoodData, IsBadData, IsGoodScript, IsBadScript, IsGoodRequests, IsBadRequests, HoldsOf, HoldsIn, FailsIn, IsTold}
 
 -- a file that is known isn't lacking
 known_there : (files : Option Files) (name : List ℕ) (P : List ℕ → Type 0) → IsTold files name P → Lacks files name → ⊥
@@ -30,6 +30,12 @@ pub both_in : (files : Option Files) (name : List ℕ) (P Q : List ℕ → Type 
 unfolding IsTold HoldsIn
 both_in None name P Q known holds = absurd known
 both_in (Some files) name P Q known holds = both_of (file_of name files) P Q known holds
+
+-- so are what is known and why a file is refused
+pub both_fail : (files : Option Files) (name : List ℕ) (P Q : List ℕ → Type 0) → IsTold files name P → FailsIn files name Q → (content : List ℕ) × P content × Q content
+unfolding IsTold FailsIn
+both_fail None name P Q known fails = absurd known
+both_fail (Some files) name P Q known fails = both_of (file_of name files) P Q known fails
 
 -- a data file that is accepted isn't refused, and has one list of entries
 pub good_not_refused : (entries : List EntryInformation) (line : ℕ) (cause : FileCause) (content : List ℕ) → IsGoodData entries content → IsBadData line cause content → ⊥
@@ -65,10 +71,22 @@ of_weaker (Some content) P Q weaker holds = weaker content holds
 
 pub HoldsIn-weaker : (files : Option Files) (name : List ℕ) (P Q : List ℕ → Type 0) → ((content : List ℕ) → P content → Q content) → HoldsIn files name P → HoldsIn files name Q
 unfolding HoldsIn
-HoldsIn-weaker None name P Q weaker holds = tt
+HoldsIn-weaker None name P Q weaker holds = (holds.0, weaker holds.0 holds.1)
 HoldsIn-weaker (Some files) name P Q weaker holds = of_weaker (file_of name files) P Q weaker holds
 
 pub IsTold-weaker : (files : Option Files) (name : List ℕ) (P Q : List ℕ → Type 0) → ((content : List ℕ) → P content → Q content) → IsTold files name P → IsTold files name Q
 unfolding IsTold
 IsTold-weaker None name P Q weaker known = absurd known
 IsTold-weaker (Some files) name P Q weaker known = of_weaker (file_of name files) P Q weaker known
+
+-- why a file is refused, of less too
+pub FailsIn-weaker : (files : Option Files) (name : List ℕ) (P Q : List ℕ → Type 0) → ((content : List ℕ) → P content → Q content) → FailsIn files name P → FailsIn files name Q
+unfolding FailsIn
+FailsIn-weaker None name P Q weaker fails = tt
+FailsIn-weaker (Some files) name P Q weaker fails = of_weaker (file_of name files) P Q weaker fails
+
+-- what holds of a file that was read may refuse it
+pub HoldsIn-fails : (files : Option Files) (name : List ℕ) (P : List ℕ → Type 0) → HoldsIn files name P → FailsIn files name P
+unfolding HoldsIn FailsIn
+HoldsIn-fails None name P holds = tt
+HoldsIn-fails (Some files) name P holds = holds

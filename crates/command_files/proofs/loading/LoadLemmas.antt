@@ -15,6 +15,7 @@ use Rattle.client_core.specs.declared.types.Asked.{Asked}
 use Rattle.client_core.specs.declared.types.AskFault.{AskFault}
 use Rattle.client_core.specs.declared.types.AskFault.TheVariants as ask
 use Rattle.client_core.specs.Asks.{asks_of, line_of}
+use Rattle.command_files.specs.declared.loading.DataFile.{DataFile}
 use Rattle.command_files.specs.declared.loading.SecondFile.{SecondFile}
 use Rattle.command_files.specs.declared.loading.SecondFile.TheVariants as second
 use Rattle.command_files.specs.declared.loading.Trouble.{Trouble}
@@ -27,14 +28,20 @@ use Rattle.data_file.specs.declared.fault.DataFault.{DataFault}
 use Rattle.data_file.specs.declared.fault.DataFault.TheVariants as loading
 use Rattle.wire_io.specs.plain_values.Answers.{IsFaultOf}
 use Rattle.data_file.specs.Files.{cause_of, fault_of}
-use Rattle.command_files.specs.loading.Accepting.{HoldsOf, HoldsIn, IsUnread, IsBadData, IsGoodData, IsTooLong, IsBadScript, IsGoodScript, IsBadRequests, IsGoodRequests, IsContent, most_data, most_second}
-use Rattle.command_files.specs.loading.Loading.{IsRefused, IsMisread, LoadsCertificate, LoadsRequests, LoadsScript, LoadsData, ReadsRequests, ReadsScript, ReadsData, data_trouble_of_file, trouble_of_asks, trouble_of_data, trouble_of_file, trouble_of_script}
+use Rattle.command_files.specs.loading.Accepting.{HoldsOf, HoldsIn, FailsIn, IsUnread, IsBadData, IsGoodData, IsTooLong, IsBadScript, IsGoodScript, IsBadRequests, IsGoodRequests, IsContent, most_data, most_second}
+use Rattle.command_files.specs.loading.Loading.{IsRefused, IsMisread, LoadsCertificate, LoadsRequests, LoadsScript, LoadsData, LoadsFile, ReadsRequests, ReadsScript, ReadsData, ReadsFile, data_trouble_of_file, trouble_of_asks, trouble_of_data, trouble_of_file, trouble_of_script}
 
 -- what holds of the content that was given holds of the file, where the shelf tells
 pub HoldsIn-given : (files : Option Files) (name content : List ℕ) (P : List ℕ → Type 0) → GivesFile files name content → P content → HoldsIn files name P
 unfolding HoldsIn GivesFile
-HoldsIn-given None name content P gives holds = tt
+HoldsIn-given None name content P gives holds = (content, holds)
 HoldsIn-given (Some files) name content P gives holds = let Q : Option (List ℕ) → Type 0 = λ file. HoldsOf P file in subst Q (sym gives) holds
+
+-- what is refused of the content that was given is refused of the file, where the shelf tells
+pub FailsIn-given : (files : Option Files) (name content : List ℕ) (P : List ℕ → Type 0) → GivesFile files name content → P content → FailsIn files name P
+unfolding FailsIn GivesFile
+FailsIn-given None name content P gives holds = tt
+FailsIn-given (Some files) name content P gives holds = let Q : Option (List ℕ) → Type 0 = λ file. HoldsOf P file in subst Q (sym gives) holds
 
 -- why a file that was given isn't taken
 module _ (kind : SecondFile) (bad : ℕ → List ℕ → Type 0) (files : Option Files) (name : List ℕ) (before after : ℕ) where
@@ -42,7 +49,7 @@ module _ (kind : SecondFile) (bad : ℕ → List ℕ → Type 0) (files : Option
   unfolding IsRefused IsMisread
   IsRefused-given content trouble.NoFile gives stays misread = absurd misread
   IsRefused-given content (trouble.BadData line cause) gives stays misread = absurd misread
-  IsRefused-given content (trouble.BadLine other line) gives stays misread = (misread.0, HoldsIn-given files name content (bad line) gives misread.1, stays)
+  IsRefused-given content (trouble.BadLine other line) gives stays misread = (misread.0, FailsIn-given files name content (bad line) gives misread.1, stays)
   IsRefused-given content (trouble.BadChanges line cause) gives stays misread = absurd misread
   IsRefused-given content trouble.NoMemory gives stays misread = stays
 
@@ -52,8 +59,8 @@ module _ (kind : SecondFile) (bad : ℕ → List ℕ → Type 0) (files : Option
   too_long None line all longer = absurd longer
   too_long (Some content) line all longer = all content longer
 
-  holds_too_long : (line : ℕ) → ((content : List ℕ) → IsTooLong line content → bad line content) → (known : Option Files) → IsLonger known name most_second line → HoldsIn known name (bad line)
-  unfolding IsLonger HoldsIn
+  holds_too_long : (line : ℕ) → ((content : List ℕ) → IsTooLong line content → bad line content) → (known : Option Files) → IsLonger known name most_second line → FailsIn known name (bad line)
+  unfolding IsLonger FailsIn
   holds_too_long line all None longer = tt
   holds_too_long line all (Some known) longer = too_long (file_of name known) line all longer
 
@@ -145,7 +152,7 @@ data_given :
 unfolding LoadsData ReadsData
 data_given files name content before after (Ok rows) gives stays reads = (HoldsIn-given files name content (IsGoodData (entries_of rows)) gives reads.0, reads.1, stays)
 data_given files name content before after (Err trouble.NoFile) gives stays reads = absurd reads
-data_given files name content before after (Err (trouble.BadData line cause)) gives stays reads = (HoldsIn-given files name content (IsBadData line (cause_of cause)) gives reads, stays)
+data_given files name content before after (Err (trouble.BadData line cause)) gives stays reads = (FailsIn-given files name content (IsBadData line (cause_of cause)) gives reads, stays)
 data_given files name content before after (Err (trouble.BadLine kind line)) gives stays reads = absurd reads
 data_given files name content before after (Err (trouble.BadChanges line cause)) gives stays reads = absurd reads
 data_given files name content before after (Err trouble.NoMemory) gives stays reads = stays
@@ -157,6 +164,26 @@ unfolding ReadCause
 LoadsData-read files name content lent before after text result same gives stays reads =
     let P : List ℕ → Type 0 = λ octets. ReadsData octets result in data_given files name content before after result gives stays (subst P same reads)
 
+-- the data file of a file that was given, with its content
+file_given :
+    (files : Option Files) (name content : List ℕ) (before after : ℕ) (result : Result DataFile Trouble)
+    → GivesFile files name content → after ≡ before → ReadsFile content result → LoadsFile files name before after result
+unfolding LoadsFile ReadsFile
+file_given files name content before after (Ok file) gives stays reads =
+    (HoldsIn-given files name content (λ own. own ≡ file.content.items) gives (sym reads.0), rw reads.0 reads.1, stays)
+file_given files name content before after (Err why) gives stays reads = data_given files name content before after (Err why) gives stays reads
+
+pub LoadsFile-read :
+    {T : Type 0} (files : Option Files) (name content : List ℕ) (before after : ℕ) (text : T) (result : Result DataFile Trouble)
+    → GivesFile files name content → ReadCause {T = T} files name most_data before after (Ok text) → ReadsFile content result → LoadsFile files name before after result
+unfolding ReadCause
+LoadsFile-read files name content before after text result gives stays reads = file_given files name content before after result gives stays reads
+
+-- it wasn't loaded
+pub LoadsFile-untaken : (files : Option Files) (name : List ℕ) (before after : ℕ) (why : Trouble) → LoadsData files name before after (Err why) → LoadsFile files name before after (Err why)
+unfolding LoadsFile
+LoadsFile-untaken files name before after why loads = loads
+
 -- a file that is too long is not accepted
 data_too_long : (file : Option (List ℕ)) (line : ℕ) → IsLongerFile file most_data line → HoldsOf (IsBadData line (OfRecord Limit)) file
 unfolding IsLongerFile IsBadData
@@ -166,7 +193,7 @@ data_too_long (Some content) line longer = inr (longer.0, longer.1, refl)
 LoadsData-too_long :
     (files : Option Files) (name : List ℕ) (before after line : ℕ)
     → IsLonger files name most_data line → after ≡ before → LoadsData files name before after (Err (trouble.BadData line (DataCause.Record Limit)))
-unfolding LoadsData IsLonger HoldsIn
+unfolding LoadsData IsLonger FailsIn
 LoadsData-too_long None name before after line longer stays = (tt, stays)
 LoadsData-too_long (Some files) name before after line longer stays = (data_too_long (file_of name files) line longer, stays)
 

@@ -87,10 +87,15 @@ abbrev pub HoldsOf : (List ℕ → Type 0) → Option (List ℕ) → Type 0
 HoldsOf P None = ⊥
 HoldsOf P (Some content) = P content
 
--- the same, where the shelf tells its files
+-- this holds of the content of the file that was read: of that which the shelf tells, and of some content where it doesn't
 unfoldable pub HoldsIn : Option Files → List ℕ → (List ℕ → Type 0) → Type 0
-HoldsIn None name P = Unit {0}
+HoldsIn None name P = (content : List ℕ) × P content
 HoldsIn (Some files) name P = HoldsOf P (file_of name files)
+
+-- this, for which the file is refused, holds of its content, where the shelf tells its files
+unfoldable pub FailsIn : Option Files → List ℕ → (List ℕ → Type 0) → Type 0
+FailsIn None name P = Unit {0}
+FailsIn (Some files) name P = HoldsOf P (file_of name files)
 
 -- the shelf tells its files, the file is there, and this holds of its content
 unfoldable pub IsTold : Option Files → List ℕ → (List ℕ → Type 0) → Type 0
@@ -107,6 +112,16 @@ abbrev pub IsLoaded : (List ℕ → (List ℕ → Type 0) → Type 0) → List �
 IsLoaded holds name None left = (entries : List EntryInformation) × holds name (IsGoodData entries) × (left ≡ unchanged entries)
 IsLoaded holds name (Some changes) left = (entries : List EntryInformation) × HoldsBeside holds entries name changes (IsGoodChanges entries left)
 
+-- a data file of this content is accepted, with the file of changes where there is one, and they leave this
+abbrev pub LeavesOf : (List ℕ → (List ℕ → Type 0) → Type 0) → List ℕ → Option (List ℕ) → Left → Type 0
+LeavesOf holds content None left = (entries : List EntryInformation) × IsGoodData entries content × (left ≡ unchanged entries)
+LeavesOf holds content (Some changes) left =
+    (entries : List EntryInformation) × IsGoodData entries content × holds changes (IsGoodChanges entries left content)
+
+-- the same of files that are accepted, with the content of the data file
+abbrev pub IsLoadedFrom : (List ℕ → (List ℕ → Type 0) → Type 0) → List ℕ → Option (List ℕ) → List ℕ → Left → Type 0
+IsLoadedFrom holds name changes content left = holds name (λ own. own ≡ content) × LeavesOf holds content changes left
+
 -- the data file is accepted, and the file of changes wasn't read
 abbrev pub IsUnreadBeside : Option Files → List ℕ → ℕ → ℕ → Option (List ℕ) → Type 0
 IsUnreadBeside files name before after None = ⊥
@@ -117,4 +132,5 @@ IsUnreadBeside files name before after (Some changes) =
 abbrev pub IsBadBeside : Option Files → List ℕ → ℕ → ChangesCause → Option (List ℕ) → Type 0
 IsBadBeside files name line cause None = ⊥
 IsBadBeside files name line cause (Some changes) =
-    (entries : List EntryInformation) × HoldsBeside (HoldsIn files) entries name changes (IsBadChanges entries line cause)
+    (entries : List EntryInformation)
+    × HoldsIn files name (λ content. IsGoodData entries content × FailsIn files changes (IsBadChanges entries line cause content))

@@ -24,17 +24,18 @@ use Rattle.command_files.specs.declared.loading.SecondFile.TheVariants as second
 use Rattle.command_files.specs.declared.loading.Trouble.{Trouble}
 use Rattle.command_files.specs.declared.loading.Trouble.TheVariants as trouble
 use Rattle.command_files.specs.declared.changing.Loaded.{Loaded}
+use Rattle.command_files.specs.declared.loading.DataFile.{DataFile}
 use Rattle.command_files.specs.declared.changing.ChangesCause.TheVariants as changes_cause
 use Rattle.command_files.specs.declared.changing.ChangesFault.{ChangesFault}
 use Rattle.command_files.specs.declared.changing.ChangesFault.TheVariants as changing
 use Rattle.command_files.specs.loading.Changing.{changed_by, left_of}
-use Rattle.command_files.specs.loading.Accepting.{IsUnread, HoldsIn, IsBadBeside, IsBadChanges, IsBadData, IsGoodChanges, IsGoodData, IsLoaded, IsUnreadBeside, IsTooLong, IsBadScript, IsGoodScript, IsBadRequests, IsGoodRequests, IsContent}
+use Rattle.command_files.specs.loading.Accepting.{IsUnread, HoldsIn, FailsIn, IsBadBeside, IsBadChanges, IsBadData, IsGoodChanges, IsGoodData, IsLoaded, IsUnreadBeside, IsTooLong, IsBadScript, IsGoodScript, IsBadRequests, IsGoodRequests, IsContent}
 
 -- the data file of the name was loaded, or why not
 unfoldable pub LoadsData : Option Files → List ℕ → ℕ → ℕ → Result (List Numbered) Trouble → Type 0
 LoadsData files name before after (Ok rows) = HoldsIn files name (IsGoodData (entries_of rows)) × IsGoodTree (entries_of rows) × (after ≡ before)
 LoadsData files name before after (Err trouble.NoFile) = IsUnread files name before after
-LoadsData files name before after (Err (trouble.BadData line cause)) = HoldsIn files name (IsBadData line (cause_of cause)) × (after ≡ before)
+LoadsData files name before after (Err (trouble.BadData line cause)) = FailsIn files name (IsBadData line (cause_of cause)) × (after ≡ before)
 LoadsData files name before after (Err (trouble.BadLine kind line)) = ⊥
 LoadsData files name before after (Err (trouble.BadChanges line cause)) = ⊥
 LoadsData files name before after (Err trouble.NoMemory) = after ≡ before
@@ -48,11 +49,22 @@ ReadsData content (Err (trouble.BadLine kind line)) = ⊥
 ReadsData content (Err (trouble.BadChanges line cause)) = ⊥
 ReadsData content (Err trouble.NoMemory) = Unit {0}
 
+-- the data file of this content was loaded, and the content kept, or it is bad at this line
+unfoldable pub ReadsFile : List ℕ → Result DataFile Trouble → Type 0
+ReadsFile content (Ok file) = (file.content.items ≡ content) × ReadsData content (Ok file.tree)
+ReadsFile content (Err why) = ReadsData content (Err why)
+
+-- the data file of the name was loaded, with its content, or why not
+unfoldable pub LoadsFile : Option Files → List ℕ → ℕ → ℕ → Result DataFile Trouble → Type 0
+LoadsFile files name before after (Ok file) =
+    HoldsIn files name (λ content. content ≡ file.content.items) × ReadsData file.content.items (Ok file.tree) × (after ≡ before)
+LoadsFile files name before after (Err why) = LoadsData files name before after (Err why)
+
 -- why a file that is read after the data file isn't taken, where a line of it is bad in this sense
 unfoldable pub IsRefused : SecondFile → (ℕ → List ℕ → Type 0) → Option Files → List ℕ → ℕ → ℕ → Trouble → Type 0
 IsRefused kind bad files name before after trouble.NoFile = IsUnread files name before after
 IsRefused kind bad files name before after (trouble.BadData line cause) = ⊥
-IsRefused kind bad files name before after (trouble.BadLine other line) = (other ≡ kind) × HoldsIn files name (bad line) × (after ≡ before)
+IsRefused kind bad files name before after (trouble.BadLine other line) = (other ≡ kind) × FailsIn files name (bad line) × (after ≡ before)
 IsRefused kind bad files name before after (trouble.BadChanges line cause) = ⊥
 IsRefused kind bad files name before after trouble.NoMemory = after ≡ before
 
@@ -107,20 +119,8 @@ LoadsChanges entries content files name before after (Err trouble.NoFile) = IsUn
 LoadsChanges entries content files name before after (Err (trouble.BadData line cause)) = ⊥
 LoadsChanges entries content files name before after (Err (trouble.BadLine kind line)) = ⊥
 LoadsChanges entries content files name before after (Err (trouble.BadChanges line cause)) =
-    HoldsIn files name (IsBadChanges entries line cause content) × (after ≡ before)
+    FailsIn files name (IsBadChanges entries line cause content) × (after ≡ before)
 LoadsChanges entries content files name before after (Err trouble.NoMemory) = after ≡ before
-
--- the data file of this content was loaded, and the changes of the file of the name were applied, or why not
-unfoldable pub LoadsBeside : List ℕ → Option Files → List ℕ → ℕ → ℕ → Result Loaded Trouble → Type 0
-LoadsBeside content files name before after (Ok loaded) =
-    (entries : List EntryInformation) × IsGoodData entries content × LoadsChanges entries content files name before after (Ok loaded)
-LoadsBeside content files name before after (Err trouble.NoFile) =
-    (entries : List EntryInformation) × IsGoodData entries content × IsUnread files name before after
-LoadsBeside content files name before after (Err (trouble.BadData line cause)) = IsBadData line (cause_of cause) content × (after ≡ before)
-LoadsBeside content files name before after (Err (trouble.BadLine kind line)) = ⊥
-LoadsBeside content files name before after (Err (trouble.BadChanges line cause)) =
-    (entries : List EntryInformation) × IsGoodData entries content × LoadsChanges entries content files name before after (Err (trouble.BadChanges line cause))
-LoadsBeside content files name before after (Err trouble.NoMemory) = after ≡ before
 
 -- the tree of the data file of the name was loaded, and the changes of the second file were applied, where one is named, or
 -- why not: the data file's own faults come first
@@ -129,7 +129,7 @@ LoadsTree files name changes before after (Ok loaded) =
     IsLoaded (HoldsIn files) name changes (left_of loaded) × IsGoodTree (entries_of loaded.tree) × (after ≡ before)
 LoadsTree files name changes before after (Err trouble.NoFile) =
     IsUnread files name before after ⊎ IsUnreadBeside files name before after changes
-LoadsTree files name changes before after (Err (trouble.BadData line cause)) = HoldsIn files name (IsBadData line (cause_of cause)) × (after ≡ before)
+LoadsTree files name changes before after (Err (trouble.BadData line cause)) = FailsIn files name (IsBadData line (cause_of cause)) × (after ≡ before)
 LoadsTree files name changes before after (Err (trouble.BadLine kind line)) = ⊥
 LoadsTree files name changes before after (Err (trouble.BadChanges line cause)) = IsBadBeside files name line cause changes × (after ≡ before)
 LoadsTree files name changes before after (Err trouble.NoMemory) = after ≡ before
