@@ -40,10 +40,10 @@ NOT_THERE = ["replay d other", "replay other s", "check other", "dump other"]
 # How the program is called, a line for each command.
 HELP = """usage: aclserver COMMAND
 
-  serve DATA ADDRESS [--sessions N] [--turns N] [--queues MIB] [--idle SECONDS] [--limit N]
+  serve DATA ADDRESS [--sessions N] [--turns N] [--queues MIB] [--idle SECONDS] [--limit N] [--changes FILE]
   replay DATA SCRIPT [--dump] [--turns N]
-  check DATA
-  dump DATA
+  check DATA [--changes FILE]
+  dump DATA [--changes FILE]
   explain DATA WHO TARGET ITEM PERMISSION
   prove DATA WHO TARGET ITEM PERMISSION
   verify DATA CERTIFICATE

@@ -97,11 +97,20 @@ TORN = [
     ("x", 1, "an octet"),
 ]
 
+# Beginnings of a head, which a server that went down may leave.
+TORN_HEADS = [
+    ("", "no octets"),
+    ("v", "an octet"),
+    ("version: 1\n# of", "half a head"),
+    (head(PERSON)[:-1], "a head without its empty line"),
+]
+
 # Files that aren't accepted, each with its first bad line and the cause; the records begin in line 4.
 BAD_FILES = [
-    ("", "1: syntax", "no octets"),
-    ("version: 1\n# of", "1: syntax", "half a head"),
-    (head(PERSON)[:-1], "1: syntax", "a head without its empty line"),
+    ("\n", "1: syntax", "an empty line"),
+    ("version: 1\n# of sha1", "1: syntax", "half a head of another form"),
+    (head("")[:-1], "1: syntax", "a head of another data file without its empty line"),
+    (head(PERSON)[:-1] + "x", "1: syntax", "an octet more on the line of a head"),
     ("dn: dc=u\n\n" + head(PERSON), "1: syntax", "another block before the head"),
     (head(PERSON).replace("sha256", "sha1"), "1: syntax", "another digest"),
     (head(""), "2: digest", "the digest of nothing"),
@@ -172,6 +181,18 @@ def a_torn_end_counts_as_not_there():
             changed("check d --changes s", head(PERSON) + end, f"ok 3 0\nchanges 0 torn {torn}\n", what),
             changed("check d --changes s", head(PERSON) + GONE + end, f"ok 2 0\nchanges 1 torn {torn}\n", what),
             changed("dump d --changes s", head(PERSON) + NUMBER + end, NUMBERED, what),
+        )
+    ]
+
+
+@test
+def a_torn_head_has_no_changes():
+    return [
+        run
+        for text, what in TORN_HEADS
+        for run in (
+            changed("check d --changes s", text, f"ok 3 0\nchanges 0 torn {len(text)}\n", what),
+            changed("dump d --changes s", text, PERSON_PUT, what),
         )
     ]
 

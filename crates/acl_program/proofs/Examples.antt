@@ -1,5 +1,5 @@
 -- The definitions, computed on known cases.
-use Rattle.std.proofs.Common.{◌≡◌, true, false, List, [], ◌∷◌, codes, refl}
+use Rattle.std.proofs.Common.{◌≡◌, true, false, List, [], ◌∷◌, Some, None, codes, refl}
 use Rattle.std.specs.Fmt.{digits}
 use Rattle.command_files.specs.hex.Hex.{encode_with}
 use Rattle.command_files.specs.script_text.declared.event.ScriptEvent.{ScriptEvent}
@@ -11,13 +11,15 @@ use Rattle.session_hub.specs.session_model.Journaled.{steps_of_events}
 use Rattle.session_hub.specs.session_model.Replaying.{replayed_from}
 use Rattle.session_hub.specs.Answering.{rules}
 use Rattle.session_hub.specs.declared.ended.Ended.TheVariants as ended
-use Rattle.acl_program.specs.declared.status.Status.TheVariants.{Done, TurnsSpent, LinkFault}
+use Rattle.acl_program.specs.declared.status.Status.TheVariants.{Done, TurnsSpent, LinkFault, StoreFault}
 use Rattle.acl_program.specs.Lines.{line_of, lines_of, replay_text}
 use Rattle.command_files.specs.declared.changing.ChangesCause.TheVariants.{Digest}
 use Rattle.command_files.specs.loading.Changing.{changed, unchanged}
 use Rattle.command_files.specs.declared.loading.SecondFile.TheVariants.{Script, Requests, Certificate}
-use Rattle.acl_program.specs.Outcomes.{BadChangesLine, BadLine, Checked, FalseLine, Replayed, Served, text_of, status_of}
-use Rattle.acl_program.specs.serve.Serving.{ServeAsked, NotOpened, LoopEnded, serve_asked}
+use Rattle.acl_program.specs.Outcomes.{BadChangesLine, BadLine, Checked, FalseLine, Replayed, Served, text_of, status_of, number_of}
+use Rattle.command_files.specs.wire_io.declared.answers.NextFault.TheVariants.{Failed}
+use Rattle.acl_program.specs.serve.Storing.{ServeAsked, OpenStore, CutStore, serve_asked}
+use Rattle.acl_program.specs.serve.Serving.{NotOpened, NotStored, LoopEnded, changes_read}
 
 -- a line with octets, with none, and of a connection that was hung up
 some_sent : line_of 258 (0x30 ∷ 0x0c ∷ 0xff ∷ []) false ≡ codes "258 300cff\n"
@@ -54,7 +56,7 @@ checked : text_of (Checked (unchanged [])) ≡ codes "ok 0 0\n"
 unfolding text_of digits
 checked = refl
 
-checked_changed : text_of (Checked (changed [] 3 17)) ≡ codes "ok 0 0\nchanges 3 torn 17\n"
+checked_changed : text_of (Checked (changed [] 3 340 17)) ≡ codes "ok 0 0\nchanges 3 torn 17\n"
 unfolding text_of digits
 checked_changed = refl
 
@@ -87,7 +89,11 @@ three_turns = refl
 
 -- serving whose turns are spent, and one whose link doesn't open
 local : ServeAsked
-local = serve_asked (record { data_file = codes "d"; address = codes "127.0.0.1:3890"; sessions = 2; turns = 10; queues = 256; idle = 0; limit = 0 }) []
+local = serve_asked (record { data_file = codes "d"; address = codes "127.0.0.1:3890"; sessions = 2; turns = 10; queues = 256; idle = 0; limit = 0; changes = None }) [] (unchanged [])
+
+-- the same with a file of three changes and a torn end of 17 octets
+stored : ServeAsked
+stored = serve_asked (record { data_file = codes "d"; address = codes "127.0.0.1:3890"; sessions = 2; turns = 10; queues = 256; idle = 0; limit = 0; changes = Some (codes "c") }) [] (changed [] 3 340 17)
 
 spent_serving : text_of (Served local (LoopEnded ended.TurnsSpent)) ≡ codes "listening 127.0.0.1:3890\nturns spent\n"
 unfolding local text_of
@@ -100,3 +106,24 @@ failed_serving = refl
 failed_status : status_of (Served local NotOpened) ≡ LinkFault
 unfolding local status_of
 failed_status = refl
+
+-- serving that stores changes tells of them beside its address, whatever ends it; a fault of the store has a line and a status
+stored_serving : text_of (Served stored (LoopEnded ended.StoreFault)) ≡ codes "changes 3 torn 17\nlistening 127.0.0.1:3890\nstore fault\n"
+unfolding stored text_of digits
+stored_serving = refl
+
+stored_status : status_of (Served stored (LoopEnded ended.StoreFault)) ≡ StoreFault
+unfolding stored status_of
+stored_status = refl
+
+uncut_serving : text_of (Served stored (NotStored CutStore Failed)) ≡ codes "store fault\n"
+unfolding stored text_of
+uncut_serving = refl
+
+uncut_status : number_of (status_of (Served stored (NotStored CutStore Failed))) ≡ 11
+unfolding stored status_of
+uncut_status = refl
+
+-- the file of changes isn't read where its store failed to open
+unopened_reads : changes_read (NotStored OpenStore Failed) (Some (codes "c")) ≡ None
+unopened_reads = refl

@@ -1,5 +1,5 @@
 -- What the program comes to: one row an outcome, with the text that it prints and how it ends.
-use Rattle.std.specs.Prelude.{ℕ, Bool, true, false, ◌++◌, nat_lt, List, [], length, codes, decimal, if◌then◌else◌, Option, Some, None, Result, Ok, Err}
+use Rattle.std.specs.Prelude.{ℕ, Bool, true, false, ◌++◌, nat_lt, List, [], length, codes, decimal, if◌then◌else◌, Result, Ok, Err}
 use Rattle.command_files.specs.script_text.declared.event.ScriptEvent.{ScriptEvent}
 use Rattle.command_files.specs.wire_io.declared.answers.PutFault.{PutFault}
 use Rattle.command_files.specs.wire_io.declared.answers.PutFault.TheVariants as put
@@ -7,7 +7,6 @@ use Rattle.command_files.specs.wire_io.Pieces.{pieces}
 use Rattle.session_hub.specs.serve.Loops.{buffer_length}
 use Rattle.command_files.specs.dir_tree.Entry.{EntryInformation}
 use Rattle.command_files.specs.dir_tree.Points.{access_subentries}
-use Rattle.command_files.specs.declared.changing.Applied.{Applied}
 use Rattle.command_files.specs.declared.changing.ChangesCause.{ChangesCause}
 use Rattle.command_files.specs.declared.loading.SecondFile.{SecondFile}
 use Rattle.command_files.specs.loading.Changing.{Left}
@@ -15,9 +14,10 @@ use Rattle.command_files.specs.ldif_records.writing.WrittenFile.{written_file}
 use Rattle.command_files.specs.ldif_load.load.DataFile.{FileCause}
 use Rattle.command_files.specs.Troubles.{no_file_text, bad_data_text, bad_changes_text, bad_line_text}
 use Rattle.acl_program.specs.declared.status.Status.{Status}
-use Rattle.acl_program.specs.declared.status.Status.TheVariants.{Done, Usage, BadData, ShelfFault, SinkFault, LinkFault, TurnsSpent, NoMemory, BadScript, NotProved}
+use Rattle.acl_program.specs.declared.status.Status.TheVariants.{Done, Usage, BadData, ShelfFault, SinkFault, LinkFault, TurnsSpent, NoMemory, BadScript, NotProved, StoreFault}
 use Rattle.acl_program.specs.Lines.{replay_text, entries_after}
-use Rattle.acl_program.specs.serve.Serving.{ServeAsked, ServeEnd, serve_text, serve_status}
+use Rattle.acl_program.specs.serve.Storing.{ServeAsked}
+use Rattle.acl_program.specs.serve.Serving.{ServeEnd, applied_text, serve_text, serve_status}
 
 -- no command is asked for; a file wasn't read; the data file's first bad line, and why; the first line at which a file of
 -- changes isn't accepted, and why; the first bad line of a script, of requests or of a certificate; the first line of a
@@ -45,11 +45,6 @@ abbrev pub dump_text : Bool → List EntryInformation → List ℕ
 dump_text true entries = written_file entries
 dump_text false entries = []
 
--- what was applied of a file of changes, where there is one
-abbrev pub applied_text : Option Applied → List ℕ
-applied_text None = []
-applied_text (Some applied) = codes "changes " ++ (decimal applied.count ++ (codes " torn " ++ (decimal applied.torn ++ codes "\n")))
-
 -- what is printed
 unfoldable pub text_of : Outcome → List ℕ
 text_of NoCommand = codes "usage: aclserver (serve|replay|check|dump|explain|sample|ask|prove|verify|rights) WORDS\n"
@@ -62,7 +57,7 @@ text_of (Checked left) =
     codes "ok " ++ (decimal (length left.entries) ++ (codes " " ++ (decimal (access_subentries left.entries) ++ (codes "\n" ++ applied_text left.applied))))
 text_of (Dumped left) = written_file left.entries
 text_of (Replayed events turns dump entries) = replay_text entries events turns ++ dump_text dump (entries_after entries events turns)
-text_of (Served asked end) = serve_text asked.serving.address end
+text_of (Served asked end) = serve_text asked end
 text_of (Answered text) = text
 text_of (Sampled text) = text
 text_of OutOfMemory = []
@@ -95,6 +90,7 @@ number_of TurnsSpent = 7
 number_of NoMemory = 8
 number_of BadScript = 9
 number_of NotProved = 10
+number_of StoreFault = 11
 
 -- how it ends after a text was to be printed: a refusal of the sink comes before all else
 abbrev pub settled : Result (Unit {0}) PutFault → Status → Status

@@ -8,7 +8,8 @@ ghost use Rattle.command_files.specs.dir_tree.tree.Numbered.{entries_of};
 ghost use Rattle.command_files.specs.aci_item.Rules.{IsGoodTree};
 ghost use Rattle.command_files.specs.loading.Changing.{left_of};
 ghost use Rattle.command_files.specs.Outside.{written};
-ghost use Rattle.acl_program.specs.Outcomes.{Checked, Dumped, applied_text, status_of, text_of};
+ghost use Rattle.acl_program.specs.Outcomes.{Checked, Dumped, status_of, text_of};
+ghost use Rattle.acl_program.specs.serve.Serving.{applied_text};
 ghost use Rattle.acl_program.specs.program.Outside.{Linked, outside};
 ghost use Rattle.acl_program.specs.program.Playing.{Ends, Performs};
 
@@ -64,11 +65,11 @@ fn counts(alloc: Global, loaded: &Loaded) -> Result<String, AllocError>
 }
 
 /// How many changes were applied, and how many octets are torn, where there is a file of changes.
-fn applied_text(alloc: Global, applied: Option<Applied>) -> Result<String, AllocError>
+pub(crate) fn applied_text(alloc: Global, applied: Option<Applied>) -> Result<String, AllocError>
     ensures { IfOk result (λ text. string_bytes text ≡ applied_text applied) }
 {
     match applied {
-        Some(Applied { count, torn }) => format!(in alloc; "changes {count} torn {torn}\n"),
+        Some(Applied { count, torn, .. }) => format!(in alloc; "changes {count} torn {torn}\n"),
         None => String::from_str(alloc, ""),
     }
 }

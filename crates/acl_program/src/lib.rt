@@ -14,6 +14,7 @@ mod rights_table;
 mod sample;
 mod serve;
 mod status;
+mod storing;
 mod troubles;
 mod verifying;
 

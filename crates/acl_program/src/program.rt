@@ -46,11 +46,18 @@ use std::alloc::Global;
 /// is no such object. `--help` puts how the program is called, and `--version` which version it is. These leave the link as
 /// it is.
 ///
-/// `serve DATA ADDRESS [--sessions N] [--turns N] [--queues MIB] [--idle SECONDS] [--limit N]` loads the data file, tells
-/// the link after how many seconds of silence a connection ends, opens it at the address, puts `listening ADDRESS`, and
-/// serves the link's connections until it gives Stop, at most as many events as turns. No search is given more than so many
-/// entries, and a connection is closed that leaves untaken more than is left of so many MiB for all. Where the link fails it
-/// puts `link fault`, and where the turns are spent `turns spent`. Other words put a line on how to call the program.
+/// `serve DATA ADDRESS [--sessions N] [--turns N] [--queues MIB] [--idle SECONDS] [--limit N] [--changes FILE]` loads the data
+/// file, tells the link after how many seconds of silence a connection ends, opens it at the address, puts
+/// `listening ADDRESS`, and serves the link's connections until it gives Stop, at most as many events as turns. No search is
+/// given more than so many entries, and a connection is closed that leaves untaken more than is left of so many MiB for all.
+/// Where the link fails it puts `link fault`, and where the turns are spent `turns spent`. Other words put a line on how to
+/// call the program.
+///
+/// With `--changes` the link's store of that name is opened once the data file is loaded, and then the file is read and its
+/// changes are applied, as `check` does it; a file that is empty, or cut within the head that belongs to the data file, has
+/// none. The store is cut to what is whole of the file, and the head of the data file is stored where nothing is. The line
+/// `changes N torn M` comes with `listening ADDRESS`. The record of each change that is accepted is stored before any reply
+/// leaves that may show it. Where a call of the store fails it puts `store fault`.
 ///
 /// The data file is read before any other. A file that isn't there, or that the shelf can't read, puts `data fault`; a
 /// file that isn't accepted puts its first bad line. A file of changes puts the line of its digest where that is of another

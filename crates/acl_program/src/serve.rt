@@ -1,28 +1,40 @@
-//! The command `serve`: a data file's tree served over the link's connections.
+//! The command `serve`: a data file's tree, with its changes, served over the link's connections.
 
-ghost use Rattle.std.specs.Prelude.{◌≡◌, IfOk, string_bytes};
+ghost use Rattle.std.specs.Prelude.{◌≡◌, ℕ, List, Option, IfOk, string_bytes};
 ghost use Rattle.command_words.specs.command.Command.{Serve, serving_view};
+ghost use Rattle.command_files.specs.declared.changing.Applied.{Applied};
 ghost use Rattle.command_files.specs.dir_tree.tree.Numbered.{entries_of};
+ghost use Rattle.command_files.specs.loading.Changing.{left_of};
 ghost use Rattle.command_files.specs.wire_io.Putting.{PutsAll, PutCause};
 ghost use Rattle.command_files.specs.Outside.{Shelved, written};
-ghost use Rattle.acl_program.specs.serve.Listening.{Listens, ListensOn, ServesOpened};
+ghost use Rattle.acl_program.specs.serve.Listening.{Listens, ListensOn, ServesOpened, listening_asked};
 ghost use Rattle.acl_program.specs.Outcomes.{Served};
 ghost use Rattle.acl_program.specs.program.Outside.{beside, linked, outside};
 ghost use Rattle.acl_program.specs.program.Playing.{Ends, Performs};
-ghost use Rattle.acl_program.specs.serve.Serving.{NotOpened, Opens, ServeAsked, ended_text, listening_text, loop_status, serve_asked, terms_of};
+ghost use Rattle.acl_program.specs.serve.Storing.{ServeAsked, StoreCall, serve_asked};
+ghost use Rattle.acl_program.specs.serve.Serving.{NotOpened, NotStored, Opens, ended_text, listening_text, loop_status, terms_of};
 
+use crate::data::applied_text;
 use crate::status::Status;
+use crate::storing::{Unready, make_ready};
 use crate::troubles::print_trouble;
 use aci_index::IndexedDir;
 use command_files::dir_tree::Tree;
-use command_files::load_data;
 use command_files::wire_io::{Link, NextFault, PutFault, Shelf, Sink, write_all};
+use command_files::{Applied, Loaded};
 use command_words::Serving;
 use session_hub::{Bounds, Ended, Terms, serve_loop};
 use std::alloc::{AllocError, Global};
 
-/// Loads the data file, opens the link, prints that it listens, and serves the tree until the link gives Stop or so many
-/// events were heard. Where the link fails, or the turns are spent, a line says so.
+/// What is listened for: what the words ask for, and what was applied of a file of changes, where one is named.
+#[derive(Clone, Copy, Debug, Drop)]
+struct ListenAsked<'a> {
+    serving: Serving<'a>,
+    applied: Option<Applied>,
+}
+
+/// Makes ready what is to be served, opens the link, prints that it listens, and serves the tree until the link gives Stop or
+/// so many events were heard. Where the store or the link fails, or the turns are spent, a line says so.
 pub(crate) fn serve<H: Shelf, K: Sink, L: Link>(
     alloc: Global,
     asked: &Serving<'_>,
@@ -37,22 +49,43 @@ pub(crate) fn serve<H: Shelf, K: Sink, L: Link>(
         (linked (L.journal link.new) (L.plan link.new) (L.faults link.new) (L.lost link.new))) }
     ensures kept { H.files shelf.new ≡ H.files shelf.old }
 {
-    match load_data(alloc, shelf, asked.data) {
-        Ok(tree) => listen(alloc, tree, asked, out, link),
-        Err(trouble) => print_trouble(alloc, trouble, out),
+    match make_ready(alloc, asked, shelf, link) {
+        Ok(loaded) => listen_for(alloc, loaded, asked, out, link),
+        Err(Unready::Files(trouble)) => print_trouble(alloc, trouble, out),
+        Err(Unready::Store(fault)) => print_store_fault(fault, out),
     }
+}
+
+/// Opens the link and serves what is ready over it.
+fn listen_for<K: Sink, L: Link>(
+    alloc: Global,
+    loaded: Loaded,
+    asked: &Serving<'_>,
+    out: &mut K,
+    link: &mut L,
+) -> Status
+    ensures listens { (shelf : Shelved) (content : List ℕ) → Listens
+        (serve_asked (serving_view asked.now) content (left_of loaded))
+        (beside shelf (written (K.put out.old) (K.faults out.old))
+        (linked (L.journal link.old) (L.plan link.old) (L.faults link.old) (L.lost link.old))) result
+        (beside shelf (written (K.put out.new) (K.faults out.new))
+        (linked (L.journal link.new) (L.plan link.new) (L.faults link.new) (L.lost link.new))) }
+{
+    let Loaded { tree, applied } = loaded;
+    let serving = *asked;
+    listen(alloc, tree, &ListenAsked { serving, applied }, out, link)
 }
 
 /// Opens the link and serves the tree over it.
 fn listen<K: Sink, L: Link>(
     alloc: Global,
     tree: Tree,
-    asked: &Serving<'_>,
+    asked: &ListenAsked<'_>,
     out: &mut K,
     link: &mut L,
 ) -> Status
-    ensures listens { (shelf : Shelved) → Listens
-        (serve_asked (serving_view asked.now) (entries_of tree))
+    ensures listens { (shelf : Shelved) (content : List ℕ) → Listens
+        (listening_asked asked.now content (entries_of tree))
         (beside shelf (written (K.put out.old) (K.faults out.old))
         (linked (L.journal link.old) (L.plan link.old) (L.faults link.old) (L.lost link.old))) result
         (beside shelf (written (K.put out.new) (K.faults out.new))
@@ -68,18 +101,18 @@ fn listen<K: Sink, L: Link>(
 fn listen_on<K: Sink, L: Link>(
     alloc: Global,
     dir: IndexedDir,
-    asked: &Serving<'_>,
+    asked: &ListenAsked<'_>,
     out: &mut K,
     link: &mut L,
 ) -> Status
-    ensures listens { (shelf : Shelved) → Listens
-        (serve_asked (serving_view asked.now) (entries_of dir))
+    ensures listens { (shelf : Shelved) (content : List ℕ) → Listens
+        (listening_asked asked.now content (entries_of dir))
         (beside shelf (written (K.put out.old) (K.faults out.old))
         (linked (L.journal link.old) (L.plan link.old) (L.faults link.old) (L.lost link.old))) result
         (beside shelf (written (K.put out.new) (K.faults out.new))
         (linked (L.journal link.new) (L.plan link.new) (L.faults link.new) (L.lost link.new))) }
 {
-    match open(asked, link) {
+    match open(&asked.serving, link) {
         Ok(()) => serve_opened(alloc, dir, asked, out, link),
         Err(NextFault::Failed) => print_link_fault(out),
         Err(NextFault::NoMemory) => Status::NoMemory,
@@ -100,38 +133,47 @@ fn open<L: Link>(asked: &Serving<'_>, link: &mut L) -> Result<(), NextFault>
 fn serve_opened<K: Sink, L: Link>(
     alloc: Global,
     dir: IndexedDir,
-    asked: &Serving<'_>,
+    asked: &ListenAsked<'_>,
     out: &mut K,
     link: &mut L,
 ) -> Status
-    ensures opened { (shelf : Shelved) → ListensOn
-        (serve_asked (serving_view asked.now) (entries_of dir))
+    ensures opened { (shelf : Shelved) (content : List ℕ) → ListensOn
+        (listening_asked asked.now content (entries_of dir))
         (beside shelf (written (K.put out.old) (K.faults out.old))
         (linked (L.journal link.old) (L.plan link.old) (L.faults link.old) (L.lost link.old))) result
         (beside shelf (written (K.put out.new) (K.faults out.new))
         (linked (L.journal link.new) (L.plan link.new) (L.faults link.new) (L.lost link.new))) }
 {
-    match print_listening(alloc, asked.address, out) {
-        Ok(()) => serve_events(alloc, dir, asked, out, link),
+    match print_listening(alloc, asked, out) {
+        Ok(()) => serve_events(alloc, dir, &asked.serving, out, link),
         Err(fault) => Status::NoMemory.after(Err(fault)),
     }
 }
 
-/// Prints that the link is open at the address.
-fn print_listening<K: Sink>(alloc: Global, address: &str, out: &mut K) -> Result<(), PutFault>
-    ensures tells { PutsAll (K.put out.old) (listening_text address.now) result (K.put out.new) }
+/// Prints what was applied of a file of changes, where one is named, and that the link is open at the address.
+fn print_listening<K: Sink>(
+    alloc: Global,
+    asked: &ListenAsked<'_>,
+    out: &mut K,
+) -> Result<(), PutFault>
+    ensures tells { PutsAll (K.put out.old) (listening_text asked.now.applied asked.now.serving.address.now) result (K.put out.new) }
     ensures cause { PutCause (K.faults out.old) (K.faults out.new) result }
 {
-    let Ok(text) = listening(alloc, address) else {
+    let Ok(text) = listening_line(alloc, asked.applied, asked.serving.address) else {
         return Err(PutFault::NoMemory);
     };
     write_all(out, text.as_bytes())
 }
 
-fn listening(alloc: Global, address: &str) -> Result<String, AllocError>
-    ensures { IfOk result (λ text. string_bytes text ≡ listening_text address.now) }
+fn listening_line(
+    alloc: Global,
+    applied: Option<Applied>,
+    address: &str,
+) -> Result<String, AllocError>
+    ensures { IfOk result (λ text. string_bytes text ≡ listening_text applied address.now) }
 {
-    format!(in alloc; "listening {address}\n")
+    let applied = applied_text(alloc, applied)?;
+    format!(in alloc; "{applied}listening {address}\n")
 }
 
 /// Serves the directory over the open link, and prints why the loop ended, where a line says that.
@@ -142,7 +184,8 @@ fn serve_events<K: Sink, L: Link>(
     out: &mut K,
     link: &mut L,
 ) -> Status
-    ensures serves { (shelf : Shelved) → ServesOpened (serve_asked (serving_view asked.now) (entries_of dir))
+    ensures serves { (shelf : Shelved) (content : List ℕ) (applied : Option Applied) → ServesOpened
+        (serve_asked (serving_view asked.now) content (record { entries = entries_of dir; applied = applied }))
         (beside shelf (written (K.put out.old) (K.faults out.old))
         (linked (L.journal link.old) (L.plan link.old) (L.faults link.old) (L.lost link.old))) result
         (beside shelf (written (K.put out.new) (K.faults out.new))
@@ -161,7 +204,7 @@ fn bounds_of(asked: &Serving<'_>) -> Bounds
     Bounds {
         terms: Terms {
             limit: asked.limit,
-            keeps: false,
+            keeps: asked.changes.is_some(),
         },
         queues: asked.queues.saturating_mul(1_048_576),
     }
@@ -186,7 +229,8 @@ fn loop_status(ended: Ended) -> Status
     match ended {
         Ended::Stopped => Status::Done,
         Ended::TurnsSpent => Status::TurnsSpent,
-        Ended::LinkFault | Ended::StoreFault => Status::LinkFault,
+        Ended::LinkFault => Status::LinkFault,
+        Ended::StoreFault => Status::StoreFault,
         Ended::NoMemory => Status::NoMemory,
     }
 }
@@ -199,4 +243,19 @@ fn print_link_fault<K: Sink>(out: &mut K) -> Status
 {
     let put = write_all(out, b"link fault\n");
     Status::LinkFault.after(put)
+}
+
+/// Prints that a call of the store failed.
+#[tactic(auto, unfolding(crate::specs::Outcomes::text_of, crate::specs::Outcomes::status_of))]
+fn print_store_fault<K: Sink>(fault: NextFault, out: &mut K) -> Status
+    ensures ends { (asked : ServeAsked) (call : StoreCall) → Ends (Served asked (NotStored call fault))
+        (written (K.put out.old) (K.faults out.old)) result (written (K.put out.new) (K.faults out.new)) }
+{
+    match fault {
+        NextFault::Failed => {
+            let put = write_all(out, b"store fault\n");
+            Status::StoreFault.after(put)
+        },
+        NextFault::NoMemory => Status::NoMemory,
+    }
 }

@@ -28,6 +28,8 @@ pub enum Status {
     BadScript,
     /// The certificate isn't that of the loaded tree.
     NotProved,
+    /// The file of changes could not be opened, cut or written.
+    StoreFault,
 }
 
 impl Status {
@@ -46,6 +48,7 @@ impl Status {
             Status::NoMemory => 8,
             Status::BadScript => 9,
             Status::NotProved => 10,
+            Status::StoreFault => 11,
         }
     }
 

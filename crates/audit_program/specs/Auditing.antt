@@ -9,7 +9,7 @@ use Rattle.command_files.specs.wire_io.Putting.{appended}
 use Rattle.command_files.specs.dn_names.name.Names.{RdnSequence}
 use Rattle.command_files.specs.ldif_load.load.DataFile.{FileCause}
 use Rattle.command_files.specs.declared.loading.SecondFile.TheVariants as second
-use Rattle.command_files.specs.loading.Accepting.{IsUnread, HoldsIn, IsTold, IsGoodData, IsBadData, IsGoodScript, IsBadScript}
+use Rattle.command_files.specs.loading.Accepting.{IsUnread, HoldsIn, FailsIn, IsTold, IsGoodData, IsBadData, IsGoodScript, IsBadScript}
 use Rattle.command_files.specs.Ending.{EndsBy}
 use Rattle.command_files.specs.Outside.{Shelved, Written}
 use Rattle.command_files.specs.Troubles.{no_file_text, bad_data_text, bad_line_text}
@@ -58,7 +58,7 @@ pub record LacksData (words : List (List ℕ)) (files : Option Files) (before af
 pub record RefusesData (words : List (List ℕ)) (files : Option Files) (line : ℕ) (cause : FileCause) : Type 0 where
   pub asked : AuditView
   pub asks : IsAsked words asked
-  pub bad : HoldsIn files asked.data_file (IsBadData line cause)
+  pub bad : FailsIn files asked.data_file (IsBadData line cause)
 
 -- whose data file was accepted, and whose script wasn't read
 pub record LacksScript (words : List (List ℕ)) (files : Option Files) (before after : ℕ) : Type 0 where
@@ -74,7 +74,7 @@ pub record RefusesScript (words : List (List ℕ)) (files : Option Files) (line 
   pub entries : DirectoryEntries
   pub asks : IsAsked words asked
   pub good_data : HoldsIn files asked.data_file (IsGoodData entries)
-  pub bad : HoldsIn files asked.script (IsBadScript line)
+  pub bad : FailsIn files asked.script (IsBadScript line)
 
 -- what the program comes to: how it is to end, and the text that it is to put; the shelf's count of faults is as it was but
 -- where a file wasn't read, and nothing is put where memory ran out before

@@ -71,7 +71,7 @@ fn each_call_of_the_outside_may_fail(rt: HostRuntime) -> Result<(), Fail> {
 }
 
 /// A status, and its number.
-static NUMBERS: [(Status, u8); 10] = [
+static NUMBERS: [(Status, u8); 11] = [
     (Status::Done, 0u8),
     (Status::Usage, 2),
     (Status::BadData, 3),
@@ -82,6 +82,7 @@ static NUMBERS: [(Status, u8); 10] = [
     (Status::NoMemory, 8),
     (Status::BadScript, 9),
     (Status::NotProved, 10),
+    (Status::StoreFault, 11),
 ];
 
 #[test]

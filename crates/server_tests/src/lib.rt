@@ -10,3 +10,5 @@ mod runs;
 mod serves;
 #[cfg(test)]
 mod sets;
+#[cfg(test)]
+mod stores;

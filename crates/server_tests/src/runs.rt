@@ -70,12 +70,38 @@ pub fn run_with(
     start: &Start<'_>,
     link: &mut ScriptLink,
 ) -> Result<Ran, AllocError> {
-    let words = words_of(alloc, start.line)?;
     let mut shelf = shelf_of(alloc, start)?;
-    let mut out = MemSink::new(alloc, start.sink.to_vec(alloc)?);
-    let status = run(alloc, words.as_slice(), &mut shelf, &mut out, link);
+    run_over(alloc, start.line, &mut shelf, start.sink, link)
+}
+
+// Runs the program by the words of the line over this shelf, and a sink of which the calls of these numbers fail.
+fn run_over(
+    alloc: Global,
+    line: &str,
+    shelf: &mut MemShelf,
+    sink: &[u64],
+    link: &mut ScriptLink,
+) -> Result<Ran, AllocError> {
+    let words = words_of(alloc, line)?;
+    let mut out = MemSink::new(alloc, sink.to_vec(alloc)?);
+    let status = run(alloc, words.as_slice(), shelf, &mut out, link);
     let put = String::from_utf8_lossy(alloc, out.bytes())?;
     Ok(Ran { status, put })
+}
+
+/// Runs the program with this link over a shelf with a data file and a file of changes, `c`.
+pub fn run_beside(
+    alloc: Global,
+    line: &str,
+    data: &str,
+    changes: &str,
+    link: &mut ScriptLink,
+) -> Result<Ran, AllocError> {
+    let mut files = Vec::new(alloc);
+    files.push(file(alloc, "d", data)?)?;
+    files.push(file(alloc, "c", changes)?)?;
+    let mut shelf = MemShelf::new(files, Vec::new(alloc));
+    run_over(alloc, line, &mut shelf, &[], link)
 }
 
 /// Serves a data file by the words of the line over this link.

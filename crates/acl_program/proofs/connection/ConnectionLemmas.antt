@@ -1,21 +1,20 @@
 -- Lemmas on what is sent to a connection all of whose events are heard.
-use Rattle.std.proofs.Common.{◌≡◌, ℕ, ◌<◌, ◌≤◌, false, List, [], ◌++◌, length, take, Option, Some, refl, sym, ap, ◌∙◌, subst, arith}
+use Rattle.std.proofs.Common.{◌≡◌, ℕ, ◌<◌, List, [], ◌++◌, length, Some, refl, sym, ap, ◌∙◌, subst, arith}
 use Rattle.std.proofs.lemmas.List.{take_all}
 use Rattle.command_files.specs.script_text.declared.event.ScriptEvent.{ScriptEvent}
-use Rattle.command_files.specs.wire_io.declared.journal.Event.{Event}
 use Rattle.command_files.specs.wire_io.declared.journal.Item.{Item}
 use Rattle.command_files.specs.wire_io.Journal.{heard, taken_of}
 use Rattle.command_files.specs.wire_io.Pieces.{pieces, steps_of, Plays as BringsOn}
 use Rattle.command_files.specs.wire_io.link.Plan.{Plan}
 use Rattle.command_files.specs.wire_io.Scripted.{LinkState, fresh_link}
-use Rattle.session_hub.specs.session_model.Journaled.{steps_of as journal_steps, steps_of_events}
-use Rattle.session_hub.specs.session_model.Replaying.{IsReplay, replayed}
+use Rattle.session_hub.specs.session_model.Journaled.{steps_of_events}
+use Rattle.session_hub.specs.session_model.Replaying.{replayed}
 use Rattle.session_hub.specs.declared.ended.Ended.TheVariants as ended
 use Rattle.session_hub.specs.Parties.{DirectoryEntries}
 use Rattle.session_hub.specs.Answering.{rules}
 use Rattle.session_hub.specs.serve.Loops.{buffer_length, Serves, ServesAll, PlaysOut, PlayedOut}
 use Rattle.session_hub.specs.Terms.{no_terms}
-use Rattle.acl_program.specs.Lines.{heard_of, replay_of, sent_over}
+use Rattle.acl_program.specs.Lines.{replay_of, sent_over}
 use Rattle.acl_program.proofs.replay.JournalLemmas.{length-stopped}
 use Rattle.acl_program.proofs.replay.PlayLemmas.{heard_is, all_heard, none_left}
 

@@ -11,19 +11,20 @@ use Rattle.command_files.specs.declared.loading.SecondFile.TheVariants as second
 use Rattle.command_files.specs.dir_tree.Entry.{EntryInformation}
 use Rattle.command_files.specs.ldif_load.load.DataFile.{loads}
 use Rattle.sample_input.specs.SampleFile.{sample_file}
-use Rattle.command_files.proofs.Theorems.{both_in, one_events, IsTold-weaker, one_left}
+use Rattle.command_files.proofs.Theorems.{both_in, one_events, IsTold-weaker, one_left, told_from}
 use Rattle.acl_program.specs.Outcomes.{Outcome, NoCommand, NoFile, BadDataLine, BadChangesLine, BadLine, FalseLine, Checked, Dumped, Replayed, Served, Answered, Sampled, OutOfMemory, status_of}
 use Rattle.acl_program.specs.declared.status.Status.TheVariants.{Done, NoMemory}
 use Rattle.acl_program.specs.program.Outside.{Linked}
 use Rattle.acl_program.specs.Answering.{Tells, AsksAnswer}
 use Rattle.acl_program.specs.Sampling.{Samples, sample_text}
-use Rattle.acl_program.specs.serve.Serving.{ServeAsked, ServeEnd, LoopEnded}
-use Rattle.acl_program.proofs.serve.ServeLemmas.{served_done}
-use Rattle.command_files.specs.loading.Accepting.{IsGoodData, IsGoodScript, IsLoaded, HoldsIn, IsTold}
+use Rattle.acl_program.specs.serve.Storing.{ServeAsked}
+use Rattle.acl_program.specs.serve.Serving.{ServeEnd, LoopEnded}
+use Rattle.acl_program.proofs.serve.CountLemmas.{served_done}
+use Rattle.command_files.specs.loading.Accepting.{IsGoodData, IsGoodScript, IsLoaded, IsLoadedFrom, HoldsIn, IsTold}
 use Rattle.command_files.specs.loading.Changing.{Left}
 use Rattle.acl_program.specs.program.Causes.{AsksLoaded, Comes, Links, HearsStop, IsDue, changes_of, data_of}
 use Rattle.acl_program.proofs.program.AcceptLemmas.{IsGoodSecond}
-use Rattle.acl_program.proofs.program.ReadyLemmas.{IsReady, ReadyChanges, ReadyData, ReadySecond, ReadySample, OfServe, OfReplay, OfCheck, OfDump, OfAnswer, OfSample, IsDone, tells_kind, same_entries, comes_done, ready_alone, ready_both, ready_loaded, Settles, settled_by}
+use Rattle.acl_program.proofs.program.ReadyLemmas.{IsReady, ReadyChanges, ReadyData, ReadySecond, ReadySample, OfServe, OfReplay, OfCheck, OfDump, OfAnswer, OfSample, IsDone, tells_kind, same_entries, comes_done, ready_both, ready_loaded, Settles, settled_by}
 use Rattle.acl_program.proofs.program.AnswerLemmas.{answer_once, told_ready}
 
 -- a tree was to be checked, or put again
@@ -123,19 +124,20 @@ status_of-stopped asks = refl
 
 -- a data file was to be served, and the link didn't fail and gave Stop
 module _ (words : List (List ℕ)) (files : Option Files) (before after : ℕ) (asks : ServeAsked) (old new : Linked)
-    (is : IsCommand words (Serve asks.serving)) (known : IsTold files asks.serving.data_file (IsGoodData asks.entries)) (still : Rose before after → ⊥)
+    (is : IsCommand words (Serve asks.serving)) (known : IsLoadedFrom (IsTold files) asks.serving.data_file asks.serving.changes asks.content asks.left) (still : Rose before after → ⊥)
     (no_fault : Rose old.faults new.faults → ⊥) (hears : HearsStop old.journal new.journal) where
-  serve_ready : IsReady files (Serve asks.serving) asks.entries
+  serve_ready : (entries : List EntryInformation) × IsReady files (Serve asks.serving) entries
   unfolding ReadySample
-  serve_ready = ready_alone files (Serve asks.serving) asks.serving.data_file asks.entries refl refl refl tt tt known
+  serve_ready = ready_loaded files (Serve asks.serving) asks.serving.data_file asks.serving.changes asks.left refl refl refl tt tt
+      (told_from files asks.serving.data_file asks.serving.changes asks.content asks.left known)
 
-  serve_own : (outcome : Outcome) → Links outcome old new → IsDone OfServe outcome → (status_of outcome ≡ NoMemory) ⊎ (status_of outcome ≡ Done)
+  serve_own : (outcome : Outcome) → Links words outcome old new → IsDone OfServe outcome → (status_of outcome ≡ NoMemory) ⊎ (status_of outcome ≡ Done)
   unfolding Links status_of
-  serve_own (Served other end) links done = served_done other end old new no_fault hears links
+  serve_own (Served other end) links done = served_done other old new no_fault hears end links
   serve_own outcome links done = absurd done
 
-  serve_due : (outcome : Outcome) → Comes words files before after outcome → Links outcome old new → (status_of outcome ≡ NoMemory) ⊎ (status_of outcome ≡ Done)
-  serve_due outcome comes links = by (comes_done words files before after (Serve asks.serving) is asks.entries serve_ready still outcome comes)
+  serve_due : (outcome : Outcome) → Comes words files before after outcome → Links words outcome old new → (status_of outcome ≡ NoMemory) ⊎ (status_of outcome ≡ Done)
+  serve_due outcome comes links = by (comes_done words files before after (Serve asks.serving) is serve_ready.0 serve_ready.1 still outcome comes)
     where
       by : (outcome ≡ OutOfMemory) ⊎ IsDone OfServe outcome → (status_of outcome ≡ NoMemory) ⊎ (status_of outcome ≡ Done)
       by (inl none) = inl (ap status_of none ∙ status_of-memory)
@@ -191,7 +193,7 @@ as_status outcome due (inr same) = inr (ap status_of same)
 
 -- the outcome that is due comes, but for want of memory
 pub due_comes : (words : List (List ℕ)) (files : Option Files) (before after : ℕ) (old new : Linked) (outcome due : Outcome)
-    → IsDue words files old new due → (Rose before after → ⊥) → Comes words files before after outcome → Links outcome old new
+    → IsDue words files old new due → (Rose before after → ⊥) → Comes words files before after outcome → Links words outcome old new
     → (status_of outcome ≡ NoMemory) ⊎ (status_of outcome ≡ status_of due)
 unfolding IsDue
 due_comes words files before after old new outcome NoCommand is still comes links = absurd is

@@ -1,12 +1,12 @@
 -- What the parts of a command say together of how it ended.
-use Rattle.std.proofs.Common.{◌≡◌, ℕ, Bool, List, Option, Some, None, Ok, Err, refl, sym, subst, ◌∙◌, inl, inr}
+use Rattle.std.proofs.Common.{◌≡◌, ℕ, Bool, List, Option, Some, Ok, Err, refl, sym, subst, ◌∙◌, inl, inr}
 use Rattle.command_files.specs.wire_io.Files.{Files}
 use Rattle.command_files.specs.wire_io.Scripted.{LinkState}
 use Rattle.command_files.proofs.wire_io_proofs.Theorems.{appended-none}
 use Rattle.command_words.specs.command.Command.{CommandView, IsCommand, Replay, Check, Dump}
 use Rattle.command_files.specs.dir_tree.tree.Numbered.{Numbered, entries_of}
 use Rattle.command_files.specs.Outside.{Written, shelved}
-use Rattle.command_files.proofs.Theorems.{HoldsIn-weaker}
+use Rattle.command_files.proofs.Theorems.{FailsIn-weaker}
 use Rattle.acl_program.specs.declared.status.Status.{Status}
 use Rattle.acl_program.specs.declared.status.Status.TheVariants.{NoMemory}
 use Rattle.command_files.specs.declared.loading.Trouble.{Trouble}
@@ -19,7 +19,7 @@ use Rattle.acl_program.specs.Answering.{Tells}
 use Rattle.acl_program.specs.Outcomes.{Checked, Dumped, Replayed, Answered, OutOfMemory}
 use Rattle.acl_program.specs.program.Causes.{AsksData, Comes, IsBadSecond, Links, RefusesSecond, Second, data_of, changes_of, second_of}
 use Rattle.acl_program.specs.program.Outside.{Linked, Outside, beside}
-use Rattle.acl_program.specs.program.Playing.{Ends, ComesFor, Performs}
+use Rattle.acl_program.specs.program.Playing.{Ends, ComesFor, LinksFor, Performs}
 use Rattle.acl_program.specs.Troubles.{outcome_of}
 use Rattle.acl_program.proofs.troubles.EndsLemmas.{Ends-no_memory}
 
@@ -41,13 +41,13 @@ data_refused asked name files before after (trouble.BadChanges line cause) names
 data_refused asked name files before after trouble.NoMemory names loads = λ words is. loads
 
 -- a file that wasn't read leaves the link as it is
-links_refused : (why : Trouble) (before after : Linked) → after ≡ before → Links (outcome_of why) before after
+links_refused : (asked : CommandView) (why : Trouble) (before after : Linked) → after ≡ before → LinksFor asked (outcome_of why) before after
 unfolding Links
-links_refused trouble.NoFile before after stays = stays
-links_refused (trouble.BadData line cause) before after stays = stays
-links_refused (trouble.BadLine file line) before after stays = stays
-links_refused (trouble.BadChanges line cause) before after stays = stays
-links_refused trouble.NoMemory before after stays = stays
+links_refused asked trouble.NoFile before after stays = λ words is. inl stays
+links_refused asked (trouble.BadData line cause) before after stays = λ words is. stays
+links_refused asked (trouble.BadLine file line) before after stays = λ words is. stays
+links_refused asked (trouble.BadChanges line cause) before after stays = λ words is. inl stays
+links_refused asked trouble.NoMemory before after stays = λ words is. inl stays
 
 pub Performs-refused :
     (asked : CommandView) (name : List ℕ) (before after : Outside) (status : Status) (why : Trouble)
@@ -58,11 +58,11 @@ Performs-refused asked name before after status why names loads ends stays = (
   outcome_of why,
   data_refused asked name before.shelf.files before.shelf.faults after.shelf.faults why names loads,
   ends,
-  links_refused why before.link after.link stays,
+  links_refused asked why before.link after.link stays,
 )
 
 -- a data file with its changes, of which one wasn't taken
-tree_refused :
+pub tree_refused :
     (asked : CommandView) (name : List ℕ) (files : Option Files) (before after : ℕ) (why : Trouble)
     → data_of asked ≡ Some name → LoadsTree files name (changes_of asked) before after (Err why) → ComesFor asked files before after (outcome_of why)
 unfolding LoadsTree Comes AsksData
@@ -86,7 +86,7 @@ Performs-tree_refused asked name before after status why names loads ends stays 
   outcome_of why,
   tree_refused asked name before.shelf.files before.shelf.faults after.shelf.faults why names loads,
   ends,
-  links_refused why before.link after.link stays,
+  links_refused asked why before.link after.link stays,
 )
 
 -- a tree that was checked, or put again
@@ -96,7 +96,7 @@ pub Performs-checked :
     → after.link ≡ before.link → Performs (Check name changes) before status after
 unfolding Performs LoadsTree Comes Links
 Performs-checked name changes before after status loaded loads ends stays =
-    (Checked (left_of loaded), (λ words is. (record { data_file = name; changes = changes; asked = is; good = loads.0 }, loads.2)), ends, stays)
+    (Checked (left_of loaded), (λ words is. (record { data_file = name; changes = changes; asked = is; good = loads.0 }, loads.2)), ends, λ words is. stays)
 
 pub Performs-dumped :
     (name : List ℕ) (changes : Option (List ℕ)) (before after : Outside) (status : Status) (loaded : Loaded)
@@ -104,7 +104,7 @@ pub Performs-dumped :
     → after.link ≡ before.link → Performs (Dump name changes) before status after
 unfolding Performs LoadsTree Comes Links
 Performs-dumped name changes before after status loaded loads ends stays =
-    (Dumped (left_of loaded), (λ words is. (record { data_file = name; changes = changes; asked = is; good = loads.0 }, loads.2)), ends, stays)
+    (Dumped (left_of loaded), (λ words is. (record { data_file = name; changes = changes; asked = is; good = loads.0 }, loads.2)), ends, λ words is. stays)
 
 -- a second file that isn't taken, after the data file was loaded
 second_refused :
@@ -125,7 +125,7 @@ second_refused asked name read rows bad files before middle after (trouble.BadLi
       name = read.name;
       entries = entries_of rows;
       asked = record { command = asked; data_file = name; asked = is; has_data = has_data; has_second = has_second; good = loads.0 };
-      bad = HoldsIn-weaker files read.name (bad line) (IsBadSecond read.kind (entries_of rows) line) (is_bad line) refused.1;
+      bad = FailsIn-weaker files read.name (bad line) (IsBadSecond read.kind (entries_of rows) line) (is_bad line) refused.1;
     } in
     λ words is. (subst (λ kind. RefusesSecond words files kind line) (sym refused.0) (refuses words is), refused.2 ∙ loads.2)
 second_refused asked name read rows bad files before middle after (trouble.BadChanges line cause) has_data has_second is_bad loads refused = absurd refused
@@ -141,7 +141,7 @@ Performs-second_refused asked name read bad before after middle status rows why 
   outcome_of why,
   second_refused asked name read rows bad before.shelf.files before.shelf.faults middle after.shelf.faults why has_data has_second is_bad loads refused,
   ends,
-  links_refused why before.link after.link stays,
+  links_refused asked why before.link after.link stays,
 )
 
 -- a command after its data file was loaded, from the shelf as it then was
@@ -164,7 +164,7 @@ Performs-replayed name script turns dump before after middle status rows link lo
   Replayed link.plan.to_come turns dump (entries_of rows),
   (λ words is. (record { script = script; asked = record { data_file = name; asked = is; good = loads.0 }; good = reads.0 }, reads.2 ∙ loads.2)),
   ends,
-  same,
+  λ words is. same,
 )
 
 -- something was answered
@@ -174,10 +174,10 @@ pub Performs-answered :
     → after.link ≡ before.link → Performs asked before status after
 unfolding Performs Comes Links
 Performs-answered asked text before after status tells stays ends same =
-    (Answered text, (λ words is. (record { command = asked; asked = is; tells = tells }, stays)), ends, same)
+    (Answered text, (λ words is. (record { command = asked; asked = is; tells = tells }, stays)), ends, λ words is. same)
 
 -- there was no memory for the command
 pub Performs-no_memory : (asked : CommandView) (before : Outside) → Performs asked before NoMemory before
 unfolding Performs Comes Links
 Performs-no_memory asked before =
-    (OutOfMemory, (λ words is. refl), Ends-no_memory OutOfMemory before.out before.out 0 (appended-none before.out.put) refl, refl)
+    (OutOfMemory, (λ words is. refl), Ends-no_memory OutOfMemory before.out before.out 0 (appended-none before.out.put) refl, λ words is. inl refl)

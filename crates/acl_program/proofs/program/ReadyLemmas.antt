@@ -11,11 +11,11 @@ use Rattle.command_files.specs.declared.loading.SecondFile.TheVariants as second
 use Rattle.command_files.specs.dir_tree.Entry.{EntryInformation}
 use Rattle.command_files.specs.ldif_load.load.DataFile.{FileCause, loads}
 use Rattle.sample_input.specs.SampleFile.{sample_file}
-use Rattle.command_files.proofs.Theorems.{known_read, both_in, good_not_refused, one_entries, IsTold-weaker, beside_read, beside_not_bad}
+use Rattle.command_files.proofs.Theorems.{known_read, both_in, both_fail, good_not_refused, one_entries, IsTold-weaker, beside_read, beside_not_bad}
 use Rattle.acl_program.specs.Outcomes.{Outcome, NoCommand, NoFile, BadDataLine, BadChangesLine, BadLine, FalseLine, Checked, Dumped, Replayed, Served, Answered, Sampled, OutOfMemory}
 use Rattle.acl_program.specs.Answering.{IsFalseCertificate, Tells}
 use Rattle.acl_program.specs.Sampling.{RefusesSample}
-use Rattle.command_files.specs.loading.Accepting.{HoldsBeside, IsBadBeside, IsGoodChanges, IsGoodData, IsBadData, IsLoaded, IsUnreadBeside, HoldsIn, IsTold}
+use Rattle.command_files.specs.loading.Accepting.{HoldsBeside, IsBadBeside, IsGoodChanges, IsGoodData, IsBadData, IsLoaded, IsUnreadBeside, HoldsIn, FailsIn, IsTold}
 use Rattle.acl_program.specs.program.Causes.{IsNoCommand, IsPerformed, AsksData, changes_of, data_of, Second, second_of, IsBadSecond, Comes, RefusesData}
 use Rattle.acl_program.proofs.program.AcceptLemmas.{certificate_not_false, IsGoodSecond, second_not_bad}
 
@@ -121,9 +121,9 @@ module _ (words : List (List ℕ)) (files : Option Files) (before after : ℕ) (
       one_entries found entries both.0 both.2 both.1
 
   -- the data file isn't refused
-  accepts_data : (line : ℕ) (cause : FileCause) (other : CommandView) (name : List ℕ) → IsCommand words other → data_of other ≡ Some name → HoldsIn files name (IsBadData line cause) → ⊥
+  accepts_data : (line : ℕ) (cause : FileCause) (other : CommandView) (name : List ℕ) → IsCommand words other → data_of other ≡ Some name → FailsIn files name (IsBadData line cause) → ⊥
   accepts_data line cause other name is_other has bad =
-      let both = both_in files name (IsGoodData entries) (IsBadData line cause) (told_data other name is_other has) bad in
+      let both = both_fail files name (IsGoodData entries) (IsBadData line cause) (told_data other name is_other has) bad in
       good_not_refused entries line cause both.0 both.1 both.2
 
   accepts_sample : (line : ℕ) (cause : FileCause) → RefusesSample words line cause → ⊥
@@ -134,11 +134,11 @@ module _ (words : List (List ℕ)) (files : Option Files) (before after : ℕ) (
 
   -- nor the second one
   accepts_second : (kind : SecondFile) (found : List EntryInformation) (line : ℕ) (other : CommandView) (name data_file : List ℕ) → IsCommand words other → data_of other ≡ Some data_file
-      → second_of other ≡ Some (record { kind = kind; name = name }) → HoldsIn files data_file (IsGoodData found) → HoldsIn files name (IsBadSecond kind found line) → ⊥
+      → second_of other ≡ Some (record { kind = kind; name = name }) → HoldsIn files data_file (IsGoodData found) → FailsIn files name (IsBadSecond kind found line) → ⊥
   accepts_second kind found line other name data_file is_other has_data has_second good bad =
       let same = same_entries found other data_file is_other has_data good in
-      let both = both_in files name (IsGoodSecond kind entries) (IsBadSecond kind entries line) (told_second other (record { kind = kind; name = name }) is_other has_second)
-      (subst (λ all. HoldsIn files name (IsBadSecond kind all line)) same bad) in
+      let both = both_fail files name (IsGoodSecond kind entries) (IsBadSecond kind entries line) (told_second other (record { kind = kind; name = name }) is_other has_second)
+      (subst (λ all. FailsIn files name (IsBadSecond kind all line)) same bad) in
       second_not_bad kind entries line both.0 both.1 both.2
 
   accepts_files : (line : ℕ) (cause : FileCause) → RefusesData words files line cause ⊎ RefusesSample words line cause → ⊥

@@ -1,5 +1,5 @@
 -- What the parts of a command say together of how the program ends, and each clause of the program from that.
-use Rattle.std.proofs.Common.{◌≡◌, ℕ, ◌<◌, ◌≤◌, Bool, List, [], ◌++◌, length, Option, Some, None, Ok, Err, refl, sym, ap, ◌∙◌, subst, arith, inl, inr, ◌⊎◌}
+use Rattle.std.proofs.Common.{◌≡◌, ℕ, ◌<◌, ◌≤◌, Bool, List, [], ◌++◌, length, Option, Some, None, Ok, refl, sym, ap, ◌∙◌, subst, arith, inl, inr, ◌⊎◌}
 use Rattle.std.proofs.lemmas.Bool.Decides.{nat_tests}
 use Rattle.command_files.specs.plain_values.Counts.{Rose}
 use Rattle.command_files.specs.script_text.declared.event.ScriptEvent.{ScriptEvent}
@@ -18,7 +18,7 @@ use Rattle.command_files.specs.dir_tree.tree.Numbered.{entries_of}
 use Rattle.command_files.specs.aci_item.Rules.{IsGoodTree}
 use Rattle.command_files.specs.Outside.{Written}
 use Rattle.acl_program.specs.declared.status.Status.{Status}
-use Rattle.acl_program.specs.declared.status.Status.TheVariants.{Done, Usage, BadData, ShelfFault, SinkFault, LinkFault, TurnsSpent, NoMemory, BadScript, NotProved}
+use Rattle.acl_program.specs.declared.status.Status.TheVariants.{Done, Usage, BadData, ShelfFault, SinkFault, LinkFault, TurnsSpent, NoMemory, BadScript, NotProved, StoreFault}
 use Rattle.acl_program.specs.Outcomes.{Outcome, NoCommand, Replayed, OutOfMemory, dump_text, text_of, status_of}
 use Rattle.acl_program.specs.Lines.{entries_after}
 use Rattle.acl_program.specs.program.Causes.{IsNoCommand, IsPerformed, AsksServing, Comes, Links, IsDue}
@@ -99,13 +99,13 @@ pub Runs-performed :
     (words : List (List ℕ)) (asked : CommandView) (before after : Outside) (status : Status)
     → IsCommand words asked → Performs asked before status after → Runs words before status after
 unfolding Runs Performs
-Runs-performed words asked before after status is performs = (performs.0, performs.1 words is, performs.2, performs.3)
+Runs-performed words asked before after status is performs = (performs.0, performs.1 words is, performs.2, performs.3 words is)
 
 -- there was no memory to read them
 pub Runs-unread : (words : List (List ℕ)) (before after : Outside) → after.shelf.faults ≡ before.shelf.faults → after.out ≡ before.out → after.link ≡ before.link → Runs words before NoMemory after
 unfolding Runs Comes Links
 Runs-unread words before after stays out same =
-    (OutOfMemory, stays, Ends-no_memory OutOfMemory before.out after.out 0 (ap (λ written. written.put) out ∙ appended-none before.out.put) (ap (λ written. written.faults) out), same)
+    (OutOfMemory, stays, Ends-no_memory OutOfMemory before.out after.out 0 (ap (λ written. written.put) out ∙ appended-none before.out.put) (ap (λ written. written.faults) out), inl same)
 
 -- they ask for nothing
 pub Runs-usage :
@@ -123,7 +123,7 @@ pub Performs-undone :
 unfolding Performs Comes Links IsNoCommand
 Performs-undone asked before after status undone ends stays same =
     let P : CommandView → Type 0 = λ command. IsPerformed command in
-    (NoCommand, (λ words is. ((λ other is_other performed. undone (subst P (IsCommand-unique words other asked is_other is) performed)), stays)), ends, same)
+    (NoCommand, (λ words is. ((λ other is_other performed. undone (subst P (IsCommand-unique words other asked is_other is) performed)), stays)), ends, λ words is. same)
 
 module _ (words : List (List ℕ)) (before after : Outside) (status : Status) where
   -- the text of an outcome that comes
@@ -154,6 +154,7 @@ status_is outcome old TurnsSpent new puts = inr (inr puts.0)
 status_is outcome old NoMemory new puts = inr (inl refl)
 status_is outcome old BadScript new puts = inr (inr puts.0)
 status_is outcome old NotProved new puts = inr (inr puts.0)
+status_is outcome old StoreFault new puts = inr (inr puts.0)
 
 -- so it is where it is none of these two
 status_comes : (outcome : Outcome) (old : Option (List ℕ)) (status wanted : Status) (new : Option (List ℕ)) → Puts outcome old status new → status ≡ wanted

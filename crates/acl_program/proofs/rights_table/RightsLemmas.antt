@@ -1,5 +1,5 @@
 -- Lemmas on rights that are told.
-use Rattle.std.proofs.Common.{◌≡◌, ◌∙◌, ℕ, List, Option, Some, None, Ok, refl, sym}
+use Rattle.std.proofs.Common.{◌≡◌, ◌∙◌, ℕ, List, Some, None, Ok, refl, sym}
 use Rattle.command_files.specs.dir_tree.tree.Numbered.{Numbered, entries_of}
 use Rattle.command_files.specs.dn_names.name.Names.{RdnSequence}
 use Rattle.command_files.specs.loading.Accepting.{HoldsIn}

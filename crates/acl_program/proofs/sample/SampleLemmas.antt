@@ -1,5 +1,5 @@
 -- Lemmas on samples: which outcome their command comes to.
-use Rattle.std.proofs.Common.{◌≡◌, ℕ, ◌≤◌, List, length, Ok, Err, refl, sym, ap, ◌∙◌, inr}
+use Rattle.std.proofs.Common.{◌≡◌, ℕ, List, length, Ok, Err, refl, sym, ap, ◌∙◌, inr}
 use Rattle.std.proofs.lemmas.List.{length-map}
 use Rattle.command_words.specs.declared.table.CommandName.{CommandName}
 use Rattle.command_words.specs.declared.table.CommandName.TheVariants as commands
@@ -45,7 +45,7 @@ Performs-sampled count entries before after status loaded ends stays same = (
   Sampled (sample_text entries count),
   (λ words is. (record { count = count; entries = entries; asked = is; loaded = loaded; is = refl }, stays)),
   ends,
-  same,
+  λ words is. same,
 )
 
 -- the sample's file isn't accepted
@@ -55,7 +55,7 @@ pub Performs-unsampled :
     → after.shelf.faults ≡ before.shelf.faults → after.link ≡ before.link → Performs (Sample count) before status after
 unfolding Performs Comes Links
 Performs-unsampled count line cause before after status bad ends stays same =
-    (BadDataLine line cause, (λ words is. (inr (record { count = count; asked = is; bad = bad }), stays)), ends, same)
+    (BadDataLine line cause, (λ words is. (inr (record { count = count; asked = is; bad = bad }), stays)), ends, λ words is. same)
 
 -- the summary of what was sent over the entries of a tree
 pub summary_is : (entries : ℕ) (sent : List ℕ) (rows : List Numbered) (count : ℕ) → entries ≡ length rows → sent ≡ sample_replies (entries_of rows) count

@@ -10,15 +10,17 @@ use Rattle.command_files.specs.declared.changing.ChangesCause.{ChangesCause}
 use Rattle.command_files.specs.declared.loading.SecondFile.{SecondFile}
 use Rattle.command_files.specs.ldif_load.load.DataFile.{FileCause}
 use Rattle.acl_program.specs.declared.status.Status.{Status}
-use Rattle.acl_program.specs.declared.status.Status.TheVariants.{Done, Usage, BadData, ShelfFault, SinkFault, LinkFault, TurnsSpent, NoMemory, BadScript, NotProved}
+use Rattle.acl_program.specs.declared.status.Status.TheVariants.{Done, Usage, BadData, ShelfFault, SinkFault, LinkFault, TurnsSpent, NoMemory, BadScript, NotProved, StoreFault}
 use Rattle.acl_program.specs.program.Outside.{Linked, Outside}
 use Rattle.acl_program.specs.Outcomes.{Outcome, NoCommand, NoFile, BadDataLine, BadChangesLine, BadLine, FalseLine, Checked, Dumped, Replayed, Served, Answered, Sampled, OutOfMemory, status_of}
-use Rattle.acl_program.specs.program.Causes.{IsNoCommand, AsksServing, AsksServe, LacksChanges, LacksData, LacksSecond, RefusesChanges, RefusesData, RefusesSecond, RefutesCertificate, Comes, Links}
+use Rattle.acl_program.specs.program.Causes.{IsNoCommand, AsksServing, AsksServe, AsksStoring, MayOpenStore, LacksChanges, LacksData, LacksSecond, RefusesChanges, RefusesData, RefusesSecond, RefutesCertificate, Comes, Links}
 use Rattle.acl_program.specs.Sampling.{RefusesSample}
 use Rattle.acl_program.specs.program.Running.{Puts, IsCause, EndsAtFaults}
 use Rattle.acl_program.specs.program.Playing.{Ends}
-use Rattle.acl_program.specs.serve.Serving.{ServeAsked}
-use Rattle.acl_program.proofs.serve.ServeLemmas.{serve_not, fault_rose, serve_count_stays}
+use Rattle.acl_program.specs.serve.Storing.{ServeAsked}
+use Rattle.acl_program.specs.serve.Serving.{ServeEnd}
+use Rattle.acl_program.proofs.serve.StoreLemmas.{opens_count}
+use Rattle.acl_program.proofs.serve.CountLemmas.{serve_not, fault_rose, store_rose, serve_count_stays}
 
 -- a replay's status is one of two
 is_either : (status : Status) (stopped : Bool) → status ≡ (if stopped then Done else TurnsSpent) → (status ≡ Done) ⊎ (status ≡ TurnsSpent)
@@ -48,7 +50,7 @@ usage_comes words files before after (FalseLine line) is comes = absurd (cc)
 usage_comes words files before after (Checked left) is comes = absurd (cc)
 usage_comes words files before after (Dumped left) is comes = absurd (cc)
 usage_comes words files before after (Replayed events turns dump entries) is comes = absurd (not_replayed Usage events turns dump entries is (λ e. cc) (λ e. cc))
-usage_comes words files before after (Served asked end) is comes = absurd (serve_not Usage end is (λ e. cc) (λ e. cc) (λ e. cc) (λ e. cc))
+usage_comes words files before after (Served asked end) is comes = absurd (serve_not Usage end is (λ e. cc) (λ e. cc) (λ e. cc) (λ e. cc) (λ e. cc))
 usage_comes words files before after (Answered text) is comes = absurd (cc)
 usage_comes words files before after (Sampled text) is comes = absurd (cc)
 usage_comes words files before after OutOfMemory is comes = absurd (cc)
@@ -67,7 +69,7 @@ data_cause words files before after (FalseLine line) is comes = absurd (cc)
 data_cause words files before after (Checked left) is comes = absurd (cc)
 data_cause words files before after (Dumped left) is comes = absurd (cc)
 data_cause words files before after (Replayed events turns dump entries) is comes = absurd (not_replayed BadData events turns dump entries is (λ e. cc) (λ e. cc))
-data_cause words files before after (Served asked end) is comes = absurd (serve_not BadData end is (λ e. cc) (λ e. cc) (λ e. cc) (λ e. cc))
+data_cause words files before after (Served asked end) is comes = absurd (serve_not BadData end is (λ e. cc) (λ e. cc) (λ e. cc) (λ e. cc) (λ e. cc))
 data_cause words files before after (Answered text) is comes = absurd (cc)
 data_cause words files before after (Sampled text) is comes = absurd (cc)
 data_cause words files before after OutOfMemory is comes = absurd (cc)
@@ -84,7 +86,7 @@ shelf_cause words files before after (FalseLine line) is comes = absurd (cc)
 shelf_cause words files before after (Checked left) is comes = absurd (cc)
 shelf_cause words files before after (Dumped left) is comes = absurd (cc)
 shelf_cause words files before after (Replayed events turns dump entries) is comes = absurd (not_replayed ShelfFault events turns dump entries is (λ e. cc) (λ e. cc))
-shelf_cause words files before after (Served asked end) is comes = absurd (serve_not ShelfFault end is (λ e. cc) (λ e. cc) (λ e. cc) (λ e. cc))
+shelf_cause words files before after (Served asked end) is comes = absurd (serve_not ShelfFault end is (λ e. cc) (λ e. cc) (λ e. cc) (λ e. cc) (λ e. cc))
 shelf_cause words files before after (Answered text) is comes = absurd (cc)
 shelf_cause words files before after (Sampled text) is comes = absurd (cc)
 shelf_cause words files before after OutOfMemory is comes = absurd (cc)
@@ -101,7 +103,7 @@ script_cause words files before after (FalseLine line) is comes = absurd (cc)
 script_cause words files before after (Checked left) is comes = absurd (cc)
 script_cause words files before after (Dumped left) is comes = absurd (cc)
 script_cause words files before after (Replayed events turns dump entries) is comes = absurd (not_replayed BadScript events turns dump entries is (λ e. cc) (λ e. cc))
-script_cause words files before after (Served asked end) is comes = absurd (serve_not BadScript end is (λ e. cc) (λ e. cc) (λ e. cc) (λ e. cc))
+script_cause words files before after (Served asked end) is comes = absurd (serve_not BadScript end is (λ e. cc) (λ e. cc) (λ e. cc) (λ e. cc) (λ e. cc))
 script_cause words files before after (Answered text) is comes = absurd (cc)
 script_cause words files before after (Sampled text) is comes = absurd (cc)
 script_cause words files before after OutOfMemory is comes = absurd (cc)
@@ -118,19 +120,19 @@ false_cause words files before after (FalseLine line) is comes = (line, comes.0)
 false_cause words files before after (Checked left) is comes = absurd (cc)
 false_cause words files before after (Dumped left) is comes = absurd (cc)
 false_cause words files before after (Replayed events turns dump entries) is comes = absurd (not_replayed NotProved events turns dump entries is (λ e. cc) (λ e. cc))
-false_cause words files before after (Served asked end) is comes = absurd (serve_not NotProved end is (λ e. cc) (λ e. cc) (λ e. cc) (λ e. cc))
+false_cause words files before after (Served asked end) is comes = absurd (serve_not NotProved end is (λ e. cc) (λ e. cc) (λ e. cc) (λ e. cc) (λ e. cc))
 false_cause words files before after (Answered text) is comes = absurd (cc)
 false_cause words files before after (Sampled text) is comes = absurd (cc)
 false_cause words files before after OutOfMemory is comes = absurd (cc)
 
 -- a data file is to be served
-serving_asked : (words : List (List ℕ)) (files : Option Files) (asked : ServeAsked) → AsksServe words files asked → AsksServing words
+serving_asked : (words : List (List ℕ)) (files : Option Files) (asked : ServeAsked) (end : ServeEnd) → AsksServe words files asked end → AsksServing words
 unfolding AsksServing
-serving_asked words files asked asks = (asked.serving, asks.asked)
+serving_asked words files asked end asks = (asked.serving, asks.asked)
 
 -- a fault of the link comes of serving alone, and raised its count
 link_cause : (words : List (List ℕ)) (files : Option Files) (before after : ℕ) (old new : Linked) (outcome : Outcome)
-    → LinkFault ≡ status_of outcome → Comes words files before after outcome → Links outcome old new → AsksServing words × Rose old.faults new.faults
+    → LinkFault ≡ status_of outcome → Comes words files before after outcome → Links words outcome old new → AsksServing words × Rose old.faults new.faults
 unfolding status_of Comes Links
 link_cause words files before after old new NoCommand is comes links = absurd (cc)
 link_cause words files before after old new NoFile is comes links = absurd (cc)
@@ -141,32 +143,60 @@ link_cause words files before after old new (FalseLine line) is comes links = ab
 link_cause words files before after old new (Checked left) is comes links = absurd (cc)
 link_cause words files before after old new (Dumped left) is comes links = absurd (cc)
 link_cause words files before after old new (Replayed events turns dump entries) is comes links = absurd (not_replayed LinkFault events turns dump entries is (λ e. cc) (λ e. cc))
-link_cause words files before after old new (Served asked end) is comes links = (serving_asked words files asked comes.0, fault_rose asked old new end is links)
+link_cause words files before after old new (Served asked end) is comes links = (serving_asked words files asked end comes.0, fault_rose asked old new end links is)
 link_cause words files before after old new (Answered text) is comes links = absurd (cc)
 link_cause words files before after old new (Sampled text) is comes links = absurd (cc)
 link_cause words files before after old new OutOfMemory is comes links = absurd (cc)
 
+-- a fault of the store comes of serving with a file of changes alone, and raised the link's count too
+store_cause : (words : List (List ℕ)) (files : Option Files) (before after : ℕ) (old new : Linked) (outcome : Outcome)
+    → StoreFault ≡ status_of outcome → Comes words files before after outcome → Links words outcome old new → AsksStoring words × Rose old.faults new.faults
+unfolding status_of Comes Links AsksStoring
+store_cause words files before after old new NoCommand is comes links = absurd (cc)
+store_cause words files before after old new NoFile is comes links = absurd (cc)
+store_cause words files before after old new (BadDataLine line cause) is comes links = absurd (cc)
+store_cause words files before after old new (BadChangesLine line cause) is comes links = absurd (cc)
+store_cause words files before after old new (BadLine file line) is comes links = absurd (cc)
+store_cause words files before after old new (FalseLine line) is comes links = absurd (cc)
+store_cause words files before after old new (Checked left) is comes links = absurd (cc)
+store_cause words files before after old new (Dumped left) is comes links = absurd (cc)
+store_cause words files before after old new (Replayed events turns dump entries) is comes links = absurd (not_replayed StoreFault events turns dump entries is (λ e. cc) (λ e. cc))
+store_cause words files before after old new (Served asked end) is comes links = (let rose = store_rose asked old new end links is in ((asked.serving, comes.0.asked, rose.0), rose.1))
+store_cause words files before after old new (Answered text) is comes links = absurd (cc)
+store_cause words files before after old new (Sampled text) is comes links = absurd (cc)
+store_cause words files before after old new OutOfMemory is comes links = absurd (cc)
+
+-- a store is opened of serving alone, and leaves the link's count as it is
+unopened : (words : List (List ℕ)) (old new : Linked) → (AsksServing words → ⊥) → MayOpenStore words old new → new ≡ old
+unfolding AsksServing
+unopened words old new other (inl same) = same
+unopened words old new other (inr opens) = absurd (other (opens.0, opens.1))
+
+opened_count : (words : List (List ℕ)) (old new : Linked) → MayOpenStore words old new → new.faults ≡ old.faults
+opened_count words old new (inl same) = ap (λ link. link.faults) same
+opened_count words old new (inr opens) = opens_count opens.0.changes old new opens.2
+
 -- words that ask for nothing to be served leave the link as it is
 pub link_stays : (words : List (List ℕ)) (files : Option Files) (before after : ℕ) (old new : Linked) (outcome : Outcome)
-    → (AsksServing words → ⊥) → Comes words files before after outcome → Links outcome old new → new ≡ old
+    → (AsksServing words → ⊥) → Comes words files before after outcome → Links words outcome old new → new ≡ old
 unfolding Comes Links
 link_stays words files before after old new NoCommand other comes links = links
-link_stays words files before after old new NoFile other comes links = links
+link_stays words files before after old new NoFile other comes links = unopened words old new other links
 link_stays words files before after old new (BadDataLine line cause) other comes links = links
-link_stays words files before after old new (BadChangesLine line cause) other comes links = links
+link_stays words files before after old new (BadChangesLine line cause) other comes links = unopened words old new other links
 link_stays words files before after old new (BadLine file line) other comes links = links
 link_stays words files before after old new (FalseLine line) other comes links = links
 link_stays words files before after old new (Checked left) other comes links = links
 link_stays words files before after old new (Dumped left) other comes links = links
 link_stays words files before after old new (Replayed events turns dump entries) other comes links = links
-link_stays words files before after old new (Served asked end) other comes links = absurd (other (serving_asked words files asked comes.0))
+link_stays words files before after old new (Served asked end) other comes links = absurd (other (serving_asked words files asked end comes.0))
 link_stays words files before after old new (Answered text) other comes links = links
 link_stays words files before after old new (Sampled text) other comes links = links
-link_stays words files before after old new OutOfMemory other comes links = links
+link_stays words files before after old new OutOfMemory other comes links = unopened words old new other links
 
 -- the cause of each status
 pub cause_comes : (words : List (List ℕ)) (before after : Outside) (outcome : Outcome) (status : Status)
-    → Puts outcome before.out.put status after.out.put → Comes words before.shelf.files before.shelf.faults after.shelf.faults outcome → Links outcome before.link after.link
+    → Puts outcome before.out.put status after.out.put → Comes words before.shelf.files before.shelf.faults after.shelf.faults outcome → Links words outcome before.link after.link
     → IsCause words before after status
 unfolding IsCause
 cause_comes words before after outcome Done puts comes links = tt
@@ -177,6 +207,8 @@ cause_comes words before after outcome SinkFault puts comes links = tt
 cause_comes words before after outcome LinkFault puts comes links =
     link_cause words before.shelf.files before.shelf.faults after.shelf.faults before.link after.link outcome puts.0 comes links
 cause_comes words before after outcome TurnsSpent puts comes links = tt
+cause_comes words before after outcome StoreFault puts comes links =
+    store_cause words before.shelf.files before.shelf.faults after.shelf.faults before.link after.link outcome puts.0 comes links
 cause_comes words before after outcome NoMemory puts comes links = tt
 cause_comes words before after outcome BadScript puts comes links = script_cause words before.shelf.files before.shelf.faults after.shelf.faults outcome puts.0 comes
 cause_comes words before after outcome NotProved puts comes links = false_cause words before.shelf.files before.shelf.faults after.shelf.faults outcome puts.0 comes
@@ -200,45 +232,49 @@ count_stays words files before after (Sampled text) status is other comes = come
 count_stays words files before after OutOfMemory status is other comes = comes
 
 -- the link's count is as it was where its fault isn't answered, and memory was there
-link_count_stays : (outcome : Outcome) (old new : Linked) (status : Status)
-    → status ≡ status_of outcome → (status ≡ LinkFault → ⊥) → (status ≡ NoMemory → ⊥) → Links outcome old new → new.faults ≡ old.faults
+link_count_stays : (words : List (List ℕ)) (outcome : Outcome) (old new : Linked) (status : Status)
+    → status ≡ status_of outcome → (status ≡ LinkFault → ⊥) → (status ≡ StoreFault → ⊥) → (status ≡ NoMemory → ⊥) → Links words outcome old new → new.faults ≡ old.faults
 unfolding status_of Links
-link_count_stays NoCommand old new status is not_fault not_memory links = ap (λ link. link.faults) links
-link_count_stays NoFile old new status is not_fault not_memory links = ap (λ link. link.faults) links
-link_count_stays (BadDataLine line cause) old new status is not_fault not_memory links = ap (λ link. link.faults) links
-link_count_stays (BadChangesLine line cause) old new status is not_fault not_memory links = ap (λ link. link.faults) links
-link_count_stays (BadLine file line) old new status is not_fault not_memory links = ap (λ link. link.faults) links
-link_count_stays (FalseLine line) old new status is not_fault not_memory links = ap (λ link. link.faults) links
-link_count_stays (Checked left) old new status is not_fault not_memory links = ap (λ link. link.faults) links
-link_count_stays (Dumped left) old new status is not_fault not_memory links = ap (λ link. link.faults) links
-link_count_stays (Replayed events turns dump entries) old new status is not_fault not_memory links = ap (λ link. link.faults) links
-link_count_stays (Served asked end) old new status is not_fault not_memory links = serve_count_stays asked old new end status is not_fault not_memory links
-link_count_stays (Answered text) old new status is not_fault not_memory links = ap (λ link. link.faults) links
-link_count_stays (Sampled text) old new status is not_fault not_memory links = ap (λ link. link.faults) links
-link_count_stays OutOfMemory old new status is not_fault not_memory links = ap (λ link. link.faults) links
+link_count_stays words NoCommand old new status is not_fault not_store not_memory links = ap (λ link. link.faults) links
+link_count_stays words NoFile old new status is not_fault not_store not_memory links = opened_count words old new links
+link_count_stays words (BadDataLine line cause) old new status is not_fault not_store not_memory links = ap (λ link. link.faults) links
+link_count_stays words (BadChangesLine line cause) old new status is not_fault not_store not_memory links = opened_count words old new links
+link_count_stays words (BadLine file line) old new status is not_fault not_store not_memory links = ap (λ link. link.faults) links
+link_count_stays words (FalseLine line) old new status is not_fault not_store not_memory links = ap (λ link. link.faults) links
+link_count_stays words (Checked left) old new status is not_fault not_store not_memory links = ap (λ link. link.faults) links
+link_count_stays words (Dumped left) old new status is not_fault not_store not_memory links = ap (λ link. link.faults) links
+link_count_stays words (Replayed events turns dump entries) old new status is not_fault not_store not_memory links = ap (λ link. link.faults) links
+link_count_stays words (Served asked end) old new status is not_fault not_store not_memory links = serve_count_stays asked old new end links status is not_fault not_store not_memory
+link_count_stays words (Answered text) old new status is not_fault not_store not_memory links = ap (λ link. link.faults) links
+link_count_stays words (Sampled text) old new status is not_fault not_store not_memory links = ap (λ link. link.faults) links
+link_count_stays words OutOfMemory old new status is not_fault not_store not_memory links = opened_count words old new links
 
 module _ (words : List (List ℕ)) (before after : Outside) (outcome : Outcome)
-    (comes : Comes words before.shelf.files before.shelf.faults after.shelf.faults outcome) (links : Links outcome before.link after.link) where
+    (comes : Comes words before.shelf.files before.shelf.faults after.shelf.faults outcome) (links : Links words outcome before.link after.link) where
   -- the shelf's count, and the link's
   shelf_stays : (status : Status) → status ≡ status_of outcome → (status ≡ ShelfFault → ⊥) → after.shelf.faults ≡ before.shelf.faults
   shelf_stays status is other = count_stays words before.shelf.files before.shelf.faults after.shelf.faults outcome status is other comes
 
-  linked_stays : (status : Status) → status ≡ status_of outcome → (status ≡ LinkFault → ⊥) → (status ≡ NoMemory → ⊥) → after.link.faults ≡ before.link.faults
-  linked_stays status is not_fault not_memory = link_count_stays outcome before.link after.link status is not_fault not_memory links
+  linked_stays : (status : Status) → status ≡ status_of outcome → (status ≡ LinkFault → ⊥) → (status ≡ StoreFault → ⊥) → (status ≡ NoMemory → ⊥) → after.link.faults ≡ before.link.faults
+  linked_stays status is not_fault not_store not_memory = link_count_stays words outcome before.link after.link status is not_fault not_store not_memory links
 
   -- what the counts say of each status
   pub faults_end : (status : Status) → Ends outcome before.out status after.out → EndsAtFaults before after status
   unfolding EndsAtFaults
-  faults_end Done ends = ((shelf_stays Done ends.puts.0 (λ e. cc), ends.cause), linked_stays Done ends.puts.0 (λ e. cc) (λ e. cc))
-  faults_end Usage ends = ((shelf_stays Usage ends.puts.0 (λ e. cc), ends.cause), linked_stays Usage ends.puts.0 (λ e. cc) (λ e. cc))
-  faults_end BadData ends = ((shelf_stays BadData ends.puts.0 (λ e. cc), ends.cause), linked_stays BadData ends.puts.0 (λ e. cc) (λ e. cc))
-  faults_end ShelfFault ends = (ends.cause, linked_stays ShelfFault ends.puts.0 (λ e. cc) (λ e. cc))
+  faults_end Done ends = ((shelf_stays Done ends.puts.0 (λ e. cc), ends.cause), linked_stays Done ends.puts.0 (λ e. cc) (λ e. cc) (λ e. cc))
+  faults_end Usage ends = ((shelf_stays Usage ends.puts.0 (λ e. cc), ends.cause), linked_stays Usage ends.puts.0 (λ e. cc) (λ e. cc) (λ e. cc))
+  faults_end BadData ends = ((shelf_stays BadData ends.puts.0 (λ e. cc), ends.cause), linked_stays BadData ends.puts.0 (λ e. cc) (λ e. cc) (λ e. cc))
+  faults_end ShelfFault ends = (ends.cause, linked_stays ShelfFault ends.puts.0 (λ e. cc) (λ e. cc) (λ e. cc))
   faults_end SinkFault ends = ends.cause
   faults_end LinkFault ends = (
     (shelf_stays LinkFault ends.puts.0 (λ e. cc), ends.cause),
     (link_cause words before.shelf.files before.shelf.faults after.shelf.faults before.link after.link outcome ends.puts.0 comes links).1,
   )
-  faults_end TurnsSpent ends = ((shelf_stays TurnsSpent ends.puts.0 (λ e. cc), ends.cause), linked_stays TurnsSpent ends.puts.0 (λ e. cc) (λ e. cc))
+  faults_end StoreFault ends = (
+    (shelf_stays StoreFault ends.puts.0 (λ e. cc), ends.cause),
+    (store_cause words before.shelf.files before.shelf.faults after.shelf.faults before.link after.link outcome ends.puts.0 comes links).1,
+  )
+  faults_end TurnsSpent ends = ((shelf_stays TurnsSpent ends.puts.0 (λ e. cc), ends.cause), linked_stays TurnsSpent ends.puts.0 (λ e. cc) (λ e. cc) (λ e. cc))
   faults_end NoMemory ends = ends.cause
-  faults_end BadScript ends = ((shelf_stays BadScript ends.puts.0 (λ e. cc), ends.cause), linked_stays BadScript ends.puts.0 (λ e. cc) (λ e. cc))
-  faults_end NotProved ends = ((shelf_stays NotProved ends.puts.0 (λ e. cc), ends.cause), linked_stays NotProved ends.puts.0 (λ e. cc) (λ e. cc))
+  faults_end BadScript ends = ((shelf_stays BadScript ends.puts.0 (λ e. cc), ends.cause), linked_stays BadScript ends.puts.0 (λ e. cc) (λ e. cc) (λ e. cc))
+  faults_end NotProved ends = ((shelf_stays NotProved ends.puts.0 (λ e. cc), ends.cause), linked_stays NotProved ends.puts.0 (λ e. cc) (λ e. cc) (λ e. cc))

@@ -1,11 +1,11 @@
 -- Lemmas on how the program ends once the text of an outcome was to be printed.
 use Rattle.std.proofs.Common.{◌≡◌, ℕ, Bool, true, false, List, length, take, Option, Result, Ok, Err, refl, sym, ap, ◌∙◌, subst, if◌then◌else◌, nat_lt}
 use Rattle.std.proofs.Math.Seq.{take-length}
+use Rattle.command_files.specs.wire_io.declared.answers.NextFault.TheVariants as next
 use Rattle.command_files.specs.wire_io.declared.answers.PutFault.{PutFault}
 use Rattle.command_files.specs.wire_io.declared.answers.PutFault.TheVariants as put
 use Rattle.command_files.specs.wire_io.Pieces.{pieces}
 use Rattle.command_files.specs.wire_io.Putting.{appended, PutsAll, PutCause}
-use Rattle.session_hub.specs.declared.ended.Ended.{Ended}
 use Rattle.session_hub.specs.declared.ended.Ended.TheVariants as ended
 use Rattle.session_hub.specs.serve.Loops.{buffer_length}
 use Rattle.command_files.specs.declared.loading.Trouble.{Trouble}
@@ -13,11 +13,11 @@ use Rattle.command_files.specs.declared.loading.Trouble.TheVariants as trouble
 use Rattle.command_files.specs.Outside.{Written}
 use Rattle.command_files.specs.Troubles.{trouble_text}
 use Rattle.acl_program.specs.declared.status.Status.{Status}
-use Rattle.acl_program.specs.declared.status.Status.TheVariants.{Done, Usage, BadData, ShelfFault, SinkFault, LinkFault, TurnsSpent, NoMemory, BadScript, NotProved}
+use Rattle.acl_program.specs.declared.status.Status.TheVariants.{Done, Usage, BadData, ShelfFault, SinkFault, LinkFault, TurnsSpent, NoMemory, BadScript, NotProved, StoreFault}
 use Rattle.acl_program.specs.Outcomes.{Outcome, NoCommand, NoFile, BadDataLine, BadChangesLine, BadLine, FalseLine, Checked, Dumped, Replayed, Served, Answered, Sampled, OutOfMemory, text_of, status_of, settled}
 use Rattle.acl_program.specs.Troubles.{outcome_of}
 use Rattle.acl_program.specs.program.Running.{PutsFront}
-use Rattle.acl_program.specs.serve.Serving.{ServeEnd, NotBegun, NotOpened, NotServed, LoopEnded, serve_status}
+use Rattle.acl_program.specs.serve.Serving.{ServeEnd, NotStored, NotBegun, NotOpened, NotServed, LoopEnded, serve_status}
 use Rattle.acl_program.specs.program.Playing.{Ends}
 
 -- no outcome has the status of a sink's fault
@@ -26,6 +26,8 @@ done_or_spent-not_sink true is = cc
 done_or_spent-not_sink false is = cc
 
 serve-not_sink : (end : ServeEnd) → SinkFault ≡ serve_status end → ⊥
+serve-not_sink (NotStored call next.Failed) is = cc
+serve-not_sink (NotStored call next.NoMemory) is = cc
 serve-not_sink NotBegun is = cc
 serve-not_sink NotOpened is = cc
 serve-not_sink NotServed is = cc
@@ -69,6 +71,7 @@ Ends-whole outcome before after TurnsSpent is put stays = record { puts = (is, p
 Ends-whole outcome before after NoMemory is put stays = record { puts = whole_front before.put after.put (text_of outcome) put; cause = stays }
 Ends-whole outcome before after BadScript is put stays = record { puts = (is, put); cause = stays }
 Ends-whole outcome before after NotProved is put stays = record { puts = (is, put); cause = stays }
+Ends-whole outcome before after StoreFault is put stays = record { puts = (is, put); cause = stays }
 
 -- a front of the text was put, and memory ran out
 pub Ends-no_memory :

@@ -1,9 +1,8 @@
 -- Lemmas on certificates that are verified.
-use Rattle.std.proofs.Common.{◌≡◌, ◌∙◌, ℕ, Bool, List, Option, Result, Ok, Err, refl, inl, inr, subst}
+use Rattle.std.proofs.Common.{◌≡◌, ◌∙◌, ℕ, Bool, List, Result, Ok, Err, refl, inl, inr, subst}
 use Rattle.std.specs.Prelude.{Vec}
 use Rattle.std.specs.Global.{Global}
 use Rattle.command_words.specs.command.Command.{Verify}
-use Rattle.command_files.specs.wire_io.Files.{Files}
 use Rattle.command_files.specs.dir_tree.tree.Numbered.{Numbered, entries_of}
 use Rattle.command_files.specs.plain_values.Answers.{Answers}
 use Rattle.command_files.specs.declared.loading.SecondFile.TheVariants as second
@@ -13,12 +12,12 @@ use Rattle.certify.specs.Form.{cause_of}
 use Rattle.certify.specs.Verifying.{verified}
 use Rattle.certify.specs.declared.fault.CertFault.{CertFault}
 use Rattle.certify.specs.declared.fault.CertFault.TheVariants.{Form, False, NoMemory}
-use Rattle.command_files.proofs.Theorems.{HoldsIn-weaker}
+use Rattle.command_files.proofs.Theorems.{HoldsIn-weaker, HoldsIn-fails}
 use Rattle.acl_program.specs.declared.status.Status.{Status}
 use Rattle.acl_program.specs.Answering.{IsBadCertificate, IsFalseCertificate, IsGoodCertificate, TellsValidity, valid_text}
 use Rattle.acl_program.specs.Deciding.{EndsVerified, outcome_verified}
 use Rattle.acl_program.specs.Outcomes.{BadLine, FalseLine, OutOfMemory}
-use Rattle.acl_program.specs.program.Causes.{Comes, IsBadSecond, Links, second_named}
+use Rattle.acl_program.specs.program.Causes.{Comes, IsBadSecond, Links}
 use Rattle.acl_program.specs.program.Outside.{Outside}
 use Rattle.acl_program.specs.program.Playing.{Ends, Performs}
 use Rattle.acl_program.proofs.program.PerformLemmas.{Performs-answered}
@@ -64,12 +63,13 @@ module _ (name certificate : List ℕ) (before after : Outside) (middle : ℕ) (
         name = certificate;
         entries = entries_of rows;
         asked = record { command = Verify name certificate; data_file = name; asked = asked; has_data = refl; has_second = refl; good = loads.0 };
-        bad = holds_read (IsBadSecond second.Certificate (entries_of rows) line) (λ content read. inl (read.short, of_content (Err (Form line)) content is read));
+        bad = HoldsIn-fails before.shelf.files certificate (IsBadSecond second.Certificate (entries_of rows) line)
+            (holds_read (IsBadSecond second.Certificate (entries_of rows) line) (λ content read. inl (read.short, of_content (Err (Form line)) content is read)));
       },
       stays,
     )),
     ends,
-    same,
+    λ words asked. same,
   )
   performs_found (Err (False line)) is ends = (
     FalseLine line,
@@ -85,9 +85,9 @@ module _ (name certificate : List ℕ) (before after : Outside) (middle : ℕ) (
       stays,
     )),
     ends,
-    same,
+    λ words asked. same,
   )
-  performs_found (Err NoMemory) is ends = (OutOfMemory, (λ words asked. stays), ends, same)
+  performs_found (Err NoMemory) is ends = (OutOfMemory, (λ words asked. stays), ends, λ words asked. inl same)
 
   pub Performs-verified : (lent : List ℕ) → lent ≡ text.items → EndsVerified (entries_of rows) lent before.out status after.out → Performs (Verify name certificate) before status after
   Performs-verified lent is ended =

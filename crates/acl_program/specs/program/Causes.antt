@@ -1,6 +1,6 @@
 -- When each outcome of the program comes, by its words and its shelf. The files are read in the order of the words: the
 -- data file first.
-use Rattle.std.specs.Prelude.{◌≡◌, ◌⊎◌, ℕ, Bool, true, List, ◌++◌, Option, Some, None}
+use Rattle.std.specs.Prelude.{◌≡◌, ◌⊎◌, ℕ, Bool, true, List, ◌++◌, Option, Some, None, is_some, Ok}
 use Rattle.command_files.specs.plain_values.Counts.{Rose}
 use Rattle.command_files.specs.script_text.declared.event.ScriptEvent.{ScriptEvent}
 use Rattle.command_files.specs.wire_io.declared.journal.Item.{Item}
@@ -19,12 +19,13 @@ use Rattle.command_files.specs.declared.loading.SecondFile.TheVariants as second
 use Rattle.command_files.specs.dir_tree.Entry.{EntryInformation}
 use Rattle.command_files.specs.dn_names.name.Names.{RdnSequence}
 use Rattle.command_files.specs.ldif_load.load.DataFile.{FileCause}
-use Rattle.command_files.specs.loading.Accepting.{IsUnread, IsUnreadBeside, IsBadBeside, IsLoaded, HoldsIn, IsTold, IsGoodData, IsBadData, IsGoodScript, IsBadScript, IsBadRequests}
+use Rattle.command_files.specs.loading.Accepting.{IsUnread, IsUnreadBeside, IsBadBeside, IsLoaded, IsLoadedFrom, HoldsIn, FailsIn, IsTold, IsGoodData, IsBadData, IsGoodScript, IsBadScript, IsBadRequests}
 use Rattle.acl_program.specs.Outcomes.{Outcome, NoCommand, NoFile, BadDataLine, BadChangesLine, BadLine, FalseLine, Checked, Dumped, Replayed, Served, Answered, Sampled, OutOfMemory}
 use Rattle.acl_program.specs.program.Outside.{Linked}
 use Rattle.acl_program.specs.Answering.{IsBadCertificate, IsFalseCertificate, AsksAnswer}
 use Rattle.acl_program.specs.Sampling.{Samples, RefusesSample}
-use Rattle.acl_program.specs.serve.Serving.{ServeAsked, LoopEnded, LinkServes}
+use Rattle.acl_program.specs.serve.Storing.{ServeAsked, OpensStore}
+use Rattle.acl_program.specs.serve.Serving.{ServeEnd, LoopEnded, LinkServes, changes_read}
 
 -- the command is done: a decision is told where its words are a question, and rights where theirs say who and on what
 abbrev pub IsPerformed : CommandView → Type 0
@@ -86,7 +87,7 @@ second_of Version = None
 
 -- the file of changes of a command, where it has one
 abbrev pub changes_of : CommandView → Option (List ℕ)
-changes_of (Serve serving) = None
+changes_of (Serve serving) = serving.changes
 changes_of (Replay data_file script turns dump) = None
 changes_of (Check data_file changes) = changes
 changes_of (Dump data_file changes) = changes
@@ -143,7 +144,7 @@ pub record LacksChanges (words : List (List ℕ)) (files : Option Files) (before
 pub record RefusesData (words : List (List ℕ)) (files : Option Files) (line : ℕ) (cause : FileCause) : Type 0 where
   pub data_file : List ℕ
   pub asked : AsksData words data_file
-  pub bad : HoldsIn files data_file (IsBadData line cause)
+  pub bad : FailsIn files data_file (IsBadData line cause)
 
 -- the data file was accepted, and the file of changes is refused
 pub record RefusesChanges (words : List (List ℕ)) (files : Option Files) (line : ℕ) (cause : ChangesCause) : Type 0 where
@@ -164,7 +165,7 @@ pub record RefusesSecond (words : List (List ℕ)) (files : Option Files) (kind 
   pub name : List ℕ
   pub entries : List EntryInformation
   pub asked : AsksSecond words files (second_named kind name) entries
-  pub bad : HoldsIn files name (IsBadSecond kind entries line)
+  pub bad : FailsIn files name (IsBadSecond kind entries line)
 
 -- the words ask for a certificate to be verified over an accepted data file, and this is its first line that is false
 pub record RefutesCertificate (words : List (List ℕ)) (files : Option Files) (line : ℕ) : Type 0 where
@@ -193,10 +194,15 @@ pub record AsksBoth (words : List (List ℕ)) (files : Option Files) (events : L
 unfoldable pub AsksServing : List (List ℕ) → Type 0
 AsksServing words = (serving : ServingView) × IsCommand words (Serve serving)
 
--- a data file is to be served, which is accepted
-pub record AsksServe (words : List (List ℕ)) (files : Option Files) (asks : ServeAsked) : Type 0 where
+-- and its changes to be stored in a file
+unfoldable pub AsksStoring : List (List ℕ) → Type 0
+AsksStoring words = (serving : ServingView) × IsCommand words (Serve serving) × (is_some serving.changes ≡ true)
+
+-- a data file of this content is to be served, with its file of changes where one is named: those that were read are accepted,
+-- and leave this
+pub record AsksServe (words : List (List ℕ)) (files : Option Files) (asks : ServeAsked) (end : ServeEnd) : Type 0 where
   pub asked : IsCommand words (Serve asks.serving)
-  pub good : HoldsIn files asks.serving.data_file (IsGoodData asks.entries)
+  pub good : IsLoadedFrom (HoldsIn files) asks.serving.data_file (changes_read end asks.serving.changes) asks.content asks.left
 
 -- when each outcome comes, by the words, the files that the shelf tells, and its count of faults before and after: the count
 -- is as it was but where a file wasn't read
@@ -210,26 +216,32 @@ Comes words files before after (FalseLine line) = RefutesCertificate words files
 Comes words files before after (Checked left) = AsksLoaded Check words (HoldsIn files) left × (after ≡ before)
 Comes words files before after (Dumped left) = AsksLoaded Dump words (HoldsIn files) left × (after ≡ before)
 Comes words files before after (Replayed events turns dump entries) = AsksBoth words files events turns dump entries × (after ≡ before)
-Comes words files before after (Served asks end) = AsksServe words files asks × (after ≡ before)
+Comes words files before after (Served asks end) = AsksServe words files asks end × (after ≡ before)
 Comes words files before after (Answered text) = AsksAnswer words (HoldsIn files) text × (after ≡ before)
 Comes words files before after (Sampled text) = Samples words text × (after ≡ before)
 Comes words files before after OutOfMemory = after ≡ before
 
--- what each outcome says of the link: all leave it as it was but serving
-unfoldable pub Links : Outcome → Linked → Linked → Type 0
-Links NoCommand before after = after ≡ before
-Links NoFile before after = after ≡ before
-Links (BadDataLine line cause) before after = after ≡ before
-Links (BadChangesLine line cause) before after = after ≡ before
-Links (BadLine file line) before after = after ≡ before
-Links (FalseLine line) before after = after ≡ before
-Links (Checked left) before after = after ≡ before
-Links (Dumped left) before after = after ≡ before
-Links (Replayed events turns dump entries) before after = after ≡ before
-Links (Served asks end) before after = LinkServes asks end before after
-Links (Answered text) before after = after ≡ before
-Links (Sampled text) before after = after ≡ before
-Links OutOfMemory before after = after ≡ before
+-- the link is as it was; or the words ask for serving, and the store of the file of changes was opened, and nothing else done
+abbrev pub MayOpenStore : List (List ℕ) → Linked → Linked → Type 0
+MayOpenStore words before after =
+    (after ≡ before) ⊎ ((serving : ServingView) × IsCommand words (Serve serving) × OpensStore serving.changes (Ok tt) before after)
+
+-- what each outcome says of the link: all leave it as it was but serving, which opens the store before it reads the file of
+-- changes
+unfoldable pub Links : List (List ℕ) → Outcome → Linked → Linked → Type 0
+Links words NoCommand before after = after ≡ before
+Links words NoFile before after = MayOpenStore words before after
+Links words (BadDataLine line cause) before after = after ≡ before
+Links words (BadChangesLine line cause) before after = MayOpenStore words before after
+Links words (BadLine file line) before after = after ≡ before
+Links words (FalseLine line) before after = after ≡ before
+Links words (Checked left) before after = after ≡ before
+Links words (Dumped left) before after = after ≡ before
+Links words (Replayed events turns dump entries) before after = after ≡ before
+Links words (Served asks end) before after = LinkServes asks end before after
+Links words (Answered text) before after = after ≡ before
+Links words (Sampled text) before after = after ≡ before
+Links words OutOfMemory before after = MayOpenStore words before after
 
 -- Stop was heard in this call, where the link tells its journal
 unfoldable pub HearsStop : Option (List Item) → Option (List Item) → Type 0
@@ -251,7 +263,7 @@ IsDue words files old new (Replayed events turns dump entries) =
     × IsTold files data_file (IsGoodData entries) × IsTold files script (IsGoodScript events)
 IsDue words files old new (Served asks end) =
     (end ≡ LoopEnded ended.Stopped) × IsCommand words (Serve asks.serving)
-    × IsTold files asks.serving.data_file (IsGoodData asks.entries) × (Rose old.faults new.faults → ⊥) × HearsStop old.journal new.journal
+    × IsLoadedFrom (IsTold files) asks.serving.data_file asks.serving.changes asks.content asks.left × (Rose old.faults new.faults → ⊥) × HearsStop old.journal new.journal
 IsDue words files old new (Answered text) = AsksAnswer words (IsTold files) text
 IsDue words files old new (Sampled text) = Samples words text
 IsDue words files old new OutOfMemory = ⊥

@@ -17,11 +17,11 @@ use Rattle.command_files.specs.ldif_records.writing.WrittenFile.{written_file}
 use Rattle.command_files.specs.aci_item.Rules.{IsGoodTree}
 use Rattle.command_files.specs.Outside.{Written}
 use Rattle.acl_program.specs.declared.status.Status.{Status}
-use Rattle.acl_program.specs.declared.status.Status.TheVariants.{Done, Usage, BadData, ShelfFault, SinkFault, LinkFault, TurnsSpent, NoMemory, BadScript, NotProved}
+use Rattle.acl_program.specs.declared.status.Status.TheVariants.{Done, Usage, BadData, ShelfFault, SinkFault, LinkFault, TurnsSpent, NoMemory, BadScript, NotProved, StoreFault}
 use Rattle.acl_program.specs.Lines.{line_of, replay_text, entries_after}
 use Rattle.acl_program.specs.Outcomes.{Outcome, text_of, status_of}
 use Rattle.acl_program.specs.program.Causes.{Comes, Links}
-use Rattle.acl_program.specs.program.Outside.{Outside}
+use Rattle.acl_program.specs.program.Outside.{Linked, Outside}
 use Rattle.acl_program.specs.program.Running.{Puts}
 
 -- the lines that a journal tells, of these connections
@@ -65,6 +65,7 @@ IsSinkCount before after TurnsSpent = after ≡ before
 IsSinkCount before after NoMemory = after ≡ before
 IsSinkCount before after BadScript = after ≡ before
 IsSinkCount before after NotProved = after ≡ before
+IsSinkCount before after StoreFault = after ≡ before
 
 -- the text of an outcome was put, and the sink's fault has its cause
 pub record Ends (outcome : Outcome) (before : Written) (status : Status) (after : Written) : Type 0 where
@@ -75,17 +76,21 @@ pub record Ends (outcome : Outcome) (before : Written) (status : Status) (after 
 abbrev pub ComesFor : CommandView → Option Files → ℕ → ℕ → Outcome → Type 0
 ComesFor asked files before after outcome = (words : List (List ℕ)) → IsCommand words asked → Comes words files before after outcome
 
+-- the link is as the outcome says with every such words
+abbrev pub LinksFor : CommandView → Outcome → Linked → Linked → Type 0
+LinksFor asked outcome before after = (words : List (List ℕ)) → IsCommand words asked → Links words outcome before after
+
 -- a command came to an outcome, and did with the link what the outcome says
 unfoldable pub Performs : CommandView → Outside → Status → Outside → Type 0
 Performs asked before status after =
     (outcome : Outcome) × ComesFor asked before.shelf.files before.shelf.faults after.shelf.faults outcome × Ends outcome before.out status after.out
-    × Links outcome before.link after.link
+    × LinksFor asked outcome before.link after.link
 
 -- the program came to an outcome, and did with the link what the outcome says
 unfoldable pub Runs : List (List ℕ) → Outside → Status → Outside → Type 0
 Runs words before status after =
     (outcome : Outcome) × Comes words before.shelf.files before.shelf.faults after.shelf.faults outcome × Ends outcome before.out status after.out
-    × Links outcome before.link after.link
+    × Links words outcome before.link after.link
 
 -- the lines of a journal and then a tree were to be put, and then the program was to end so: an outcome with this text and
 -- this status

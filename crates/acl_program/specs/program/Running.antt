@@ -3,13 +3,13 @@ use Rattle.std.specs.Prelude.{◌≡◌, ◌⊎◌, ℕ, List, take, Option}
 use Rattle.command_files.specs.plain_values.Counts.{Rose}
 use Rattle.command_files.specs.wire_io.Putting.{appended}
 use Rattle.acl_program.specs.declared.status.Status.{Status}
-use Rattle.acl_program.specs.declared.status.Status.TheVariants.{Done, Usage, BadData, ShelfFault, SinkFault, LinkFault, TurnsSpent, NoMemory, BadScript, NotProved}
+use Rattle.acl_program.specs.declared.status.Status.TheVariants.{Done, Usage, BadData, ShelfFault, SinkFault, LinkFault, TurnsSpent, NoMemory, BadScript, NotProved, StoreFault}
 use Rattle.acl_program.specs.program.Outside.{Outside}
 use Rattle.acl_program.specs.Outcomes.{Outcome, text_of, status_of}
 use Rattle.command_files.specs.declared.changing.ChangesCause.{ChangesCause}
 use Rattle.command_files.specs.declared.loading.SecondFile.{SecondFile}
 use Rattle.command_files.specs.ldif_load.load.DataFile.{FileCause}
-use Rattle.acl_program.specs.program.Causes.{Comes, Links, AsksServing, LacksChanges, LacksData, LacksSecond, RefusesChanges, RefusesData, RefusesSecond, RefutesCertificate}
+use Rattle.acl_program.specs.program.Causes.{Comes, Links, AsksServing, AsksStoring, LacksChanges, LacksData, LacksSecond, RefusesChanges, RefusesData, RefusesSecond, RefutesCertificate}
 use Rattle.acl_program.specs.Sampling.{RefusesSample}
 
 -- a front of the text was put
@@ -27,7 +27,7 @@ Puts outcome old status new = (status ≡ status_of outcome) × (new ≡ appende
 unfoldable pub Prints : List (List ℕ) → Outside → Status → Outside → Type 0
 Prints words before status after =
     (outcome : Outcome) × Comes words before.shelf.files before.shelf.faults after.shelf.faults outcome × Puts outcome before.out.put status after.out.put
-    × Links outcome before.link after.link
+    × Links words outcome before.link after.link
 
 -- it ended as the outcome does, but for want of memory
 abbrev pub EndsAs : Outcome → Status → Type 0
@@ -49,6 +49,7 @@ IsCause words before after SinkFault = Unit {0}
 IsCause words before after LinkFault = AsksServing words × Rose before.link.faults after.link.faults
 IsCause words before after TurnsSpent = Unit {0}
 IsCause words before after NoMemory = Unit {0}
+IsCause words before after StoreFault = AsksStoring words × Rose before.link.faults after.link.faults
 
 -- the shelf's count and the sink's are as they were
 abbrev pub NoFaults : Outside → Outside → Type 0
@@ -62,6 +63,7 @@ EndsAtFaults before after SinkFault = Rose before.out.faults after.out.faults
 EndsAtFaults before after NoMemory = after.out.faults ≡ before.out.faults
 EndsAtFaults before after ShelfFault = (after.out.faults ≡ before.out.faults) × (after.link.faults ≡ before.link.faults)
 EndsAtFaults before after LinkFault = NoFaults before after × Rose before.link.faults after.link.faults
+EndsAtFaults before after StoreFault = NoFaults before after × Rose before.link.faults after.link.faults
 EndsAtFaults before after Done = NoFaults before after × (after.link.faults ≡ before.link.faults)
 EndsAtFaults before after Usage = NoFaults before after × (after.link.faults ≡ before.link.faults)
 EndsAtFaults before after BadData = NoFaults before after × (after.link.faults ≡ before.link.faults)

@@ -3,9 +3,9 @@ use Rattle.std.proofs.Common.{◌≡◌, ◌⊎◌, ℕ, List, Option, refl, sub
 use Rattle.command_files.specs.plain_values.Counts.{Rose}
 use Rattle.command_files.specs.wire_io.Files.{Files}
 use Rattle.command_files.specs.ldif_load.load.DataFile.{FileCause}
-use Rattle.command_files.specs.loading.Accepting.{IsUnread, HoldsIn, IsGoodData, IsBadData, IsGoodScript, IsBadScript}
+use Rattle.command_files.specs.loading.Accepting.{IsUnread, FailsIn, IsGoodData, IsBadData, IsGoodScript, IsBadScript}
 use Rattle.command_files.specs.Outside.{Shelved}
-use Rattle.command_files.proofs.Theorems.{known_read, both_in, good_not_refused, good_not_bad}
+use Rattle.command_files.proofs.Theorems.{known_read, both_fail, good_not_refused, good_not_bad}
 use Rattle.audit_program.specs.declared.status.AuditStatus.{AuditStatus}
 use Rattle.audit_program.specs.declared.status.AuditStatus.TheVariants.{Done, Usage, BadData, ShelfFault, SinkFault, NoMemory, BadScript}
 use Rattle.audit_program.specs.Auditing.{AskNoAudit, Comes, IsDue, LacksData, LacksScript, RefusesData, RefusesScript}
@@ -17,16 +17,16 @@ module _ (words : List (List ℕ)) (files : Option Files) (due : IsDue words fil
   data_stands : (line : ℕ) (cause : FileCause) → RefusesData words files line cause → ⊥
   data_stands line cause refuses =
       let same = one_asked words refuses.asked due.asked refuses.asks due.asks in
-      let P : AuditView → Type 0 = λ asked. HoldsIn files asked.data_file (IsBadData line cause) in
-      let both = both_in files due.asked.data_file (IsGoodData due.entries) (IsBadData line cause) due.good_data (subst P same refuses.bad) in
+      let P : AuditView → Type 0 = λ asked. FailsIn files asked.data_file (IsBadData line cause) in
+      let both = both_fail files due.asked.data_file (IsGoodData due.entries) (IsBadData line cause) due.good_data (subst P same refuses.bad) in
       good_not_refused due.entries line cause both.0 both.1 both.2
 
   -- nor is a script
   script_stands : (line : ℕ) → RefusesScript words files line → ⊥
   script_stands line refuses =
       let same = one_asked words refuses.asked due.asked refuses.asks due.asks in
-      let P : AuditView → Type 0 = λ asked. HoldsIn files asked.script (IsBadScript line) in
-      let both = both_in files due.asked.script (IsGoodScript due.events) (IsBadScript line) due.good_script (subst P same refuses.bad) in
+      let P : AuditView → Type 0 = λ asked. FailsIn files asked.script (IsBadScript line) in
+      let both = both_fail files due.asked.script (IsGoodScript due.events) (IsBadScript line) due.good_script (subst P same refuses.bad) in
       good_not_bad due.events line both.0 both.1 both.2
 
   -- and both are read, where the shelf is not at fault

@@ -6,7 +6,7 @@ use Rattle.acl_program.proofs.serve.serve_events.Goals as goal
 -- the loop ended, and its line was to be put
 pub returns : goal.returns
 returns g c = record {
-  serves = λ shelf. record {
+  serves = λ shelf content applied. record {
     how = c.serve_loop-ended.result;
     answer = c.write_all-put.result;
     serves = record {

@@ -1,0 +1,153 @@
+//! What is to be served, made ready: the files of the command are read, and the store of their changes is opened.
+
+ghost use Rattle.std.specs.Prelude.{◌≡◌, ℕ, List, Ok, Some, None};
+ghost use Rattle.command_files.specs.aci_item.Rules.{IsGoodTree};
+ghost use Rattle.command_files.specs.dir_tree.tree.Numbered.{entries_of};
+ghost use Rattle.command_files.specs.loading.Changing.{head_of, left_of, unchanged};
+ghost use Rattle.command_files.specs.loading.Loading.{LoadsFile};
+ghost use Rattle.command_words.specs.command.Command.{ServingView, serving_view};
+ghost use Rattle.acl_program.specs.program.Outside.{Linked, linked};
+ghost use Rattle.acl_program.specs.serve.Listening.{Prepares, Readies};
+ghost use Rattle.acl_program.specs.serve.Storing.{OpensStore, Stores, whole_of};
+
+use command_files::wire_io::{Link, NextFault, Shelf};
+use command_files::{Applied, DataFile, Loaded, Trouble, head_of, load_changes, load_file};
+use command_words::Serving;
+use std::alloc::Global;
+
+/// Why nothing is ready to be served.
+#[derive(Clone, Copy, Debug, PartialEq)]
+pub(crate) enum Unready {
+    /// A file wasn't taken.
+    Files(Trouble),
+    /// A call of the store was answered with a fault.
+    Store(NextFault),
+}
+
+/// Loads the data file. Where a file of changes is named, its store is opened, the changes are applied, the store is cut to
+/// what is whole of them, and the head of the data file is stored where nothing is.
+pub(crate) fn make_ready<H: Shelf, L: Link>(
+    alloc: Global,
+    asked: &Serving<'_>,
+    shelf: &mut H,
+    link: &mut L,
+) -> Result<Loaded, Unready>
+    ensures readies { Readies (serving_view asked.now) (H.files shelf.old) (H.faults shelf.old) (H.faults shelf.new)
+        (linked (L.journal link.old) (L.plan link.old) (L.faults link.old) (L.lost link.old)) result
+        (linked (L.journal link.new) (L.plan link.new) (L.faults link.new) (L.lost link.new)) }
+    ensures kept { H.files shelf.new ≡ H.files shelf.old }
+{
+    match load_file(alloc, shelf, asked.data) {
+        Ok(file) => match asked.changes {
+            Some(changes) => open_store(alloc, file, changes, shelf, link),
+            None => Ok(unchanged(file)),
+        },
+        Err(trouble) => Err(Unready::Files(trouble)),
+    }
+}
+
+/// The tree of a data file without changes.
+fn unchanged(file: DataFile) -> Loaded
+    ensures exact { left_of result ≡ unchanged (entries_of file.tree) }
+{
+    let DataFile { content: _, tree } = file;
+    Loaded {
+        tree,
+        applied: None,
+    }
+}
+
+/// Opens the store of the changes of a data file, and makes it ready.
+fn open_store<H: Shelf, L: Link>(
+    alloc: Global,
+    file: DataFile,
+    changes: &str,
+    shelf: &mut H,
+    link: &mut L,
+) -> Result<Loaded, Unready>
+    requires good { IsGoodTree (entries_of file.tree) }
+    ensures readies { (serving : ServingView) (count : ℕ) → serving.changes ≡ Some changes.now
+        → LoadsFile (H.files shelf.old) serving.data_file count (H.faults shelf.old) (Ok file)
+        → Readies serving (H.files shelf.old) count (H.faults shelf.new)
+        (linked (L.journal link.old) (L.plan link.old) (L.faults link.old) (L.lost link.old)) result
+        (linked (L.journal link.new) (L.plan link.new) (L.faults link.new) (L.lost link.new)) }
+    ensures kept { H.files shelf.new ≡ H.files shelf.old }
+{
+    match link.open_store(changes) {
+        Ok(()) => read_store(alloc, file, changes, shelf, link),
+        Err(fault) => Err(Unready::Store(fault)),
+    }
+}
+
+/// Applies the changes of the store that was opened to the data file's tree, and cuts it to what is whole.
+fn read_store<H: Shelf, L: Link>(
+    alloc: Global,
+    file: DataFile,
+    changes: &str,
+    shelf: &mut H,
+    link: &mut L,
+) -> Result<Loaded, Unready>
+    requires good { IsGoodTree (entries_of file.tree) }
+    ensures readies { (serving : ServingView) (count : ℕ) (before : Linked) → serving.changes ≡ Some changes.now
+        → LoadsFile (H.files shelf.old) serving.data_file count (H.faults shelf.old) (Ok file)
+        → OpensStore (Some changes.now) (Ok tt) before
+        (linked (L.journal link.old) (L.plan link.old) (L.faults link.old) (L.lost link.old))
+        → Readies serving (H.files shelf.old) count (H.faults shelf.new) before result
+        (linked (L.journal link.new) (L.plan link.new) (L.faults link.new) (L.lost link.new)) }
+    ensures kept { H.files shelf.new ≡ H.files shelf.old }
+{
+    let DataFile { content, tree } = file;
+    let content = content.as_slice();
+    match load_changes(alloc, shelf, tree, content, changes) {
+        Ok(loaded) => match cut_store(alloc, content, whole_of(loaded.applied), link) {
+            Ok(()) => Ok(loaded),
+            Err(fault) => Err(Unready::Store(fault)),
+        },
+        Err(trouble) => Err(Unready::Files(trouble)),
+    }
+}
+
+/// How many octets of a file of changes are whole; none, where there is no file.
+fn whole_of(applied: Option<Applied>) -> usize
+    ensures { result ≡ whole_of applied }
+{
+    match applied {
+        Some(applied) => applied.whole,
+        None => 0,
+    }
+}
+
+/// Cuts the store to what is whole of the file of changes, and stores the head of the data file where nothing is.
+fn cut_store<L: Link>(
+    alloc: Global,
+    content: &[u8],
+    whole: usize,
+    link: &mut L,
+) -> Result<(), NextFault>
+    ensures { Prepares content.now whole result
+        (linked (L.journal link.old) (L.plan link.old) (L.faults link.old) (L.lost link.old))
+        (linked (L.journal link.new) (L.plan link.new) (L.faults link.new) (L.lost link.new)) }
+{
+    match link.cut_store(whole as u64) {
+        Ok(()) => {
+            if whole == 0 {
+                store_head(alloc, content, link)
+            } else {
+                Ok(())
+            }
+        },
+        Err(fault) => Err(fault),
+    }
+}
+
+/// Stores the head of the data file of this content.
+fn store_head<L: Link>(alloc: Global, content: &[u8], link: &mut L) -> Result<(), NextFault>
+    ensures { Stores (head_of content.now) result
+        (linked (L.journal link.old) (L.plan link.old) (L.faults link.old) (L.lost link.old))
+        (linked (L.journal link.new) (L.plan link.new) (L.faults link.new) (L.lost link.new)) }
+{
+    match head_of(alloc, content) {
+        Ok(head) => link.store(head.as_slice()),
+        Err(_) => Err(NextFault::NoMemory),
+    }
+}
