@@ -6,3 +6,5 @@ pub mod RunLemmas
 pub mod GoingLemmas
 pub mod CrashLemmas
 pub mod ShownLemmas
+pub mod DigestLemmas
+pub mod StartingLemmas

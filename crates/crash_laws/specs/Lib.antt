@@ -3,3 +3,4 @@ pub mod Asking
 pub mod Written
 pub mod Going
 pub mod Crashes
+pub mod Starting

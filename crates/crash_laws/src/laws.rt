@@ -4,6 +4,7 @@ ghost use Rattle.crash_laws.specs.Asking.{AsksWithOctets};
 ghost use Rattle.crash_laws.specs.Written.{BeginsWithItsHead, IsReadAsWritten};
 ghost use Rattle.crash_laws.specs.Going.{WritesItsFileOn, WritesItsFileOnInTurn};
 ghost use Rattle.crash_laws.specs.Crashes.{ACrashKeepsWhatWasShown, ACrashKeepsWhatWasThere};
+ghost use Rattle.crash_laws.specs.Starting.{StartsWithWhatWasWritten, BeginsWithTheHeadOfItsData, StartsWithTheDataWhereTheHeadIsTorn, AStartAfterACrashHasWhatWasShown};
 
 use change_replay::change_laws::laws::{
     a_refusal_leaves_the_entries, a_refused_change_leaves_the_entries,
@@ -49,4 +50,24 @@ pub fn a_crash_keeps_what_was_shown()
 {
     a_server_writes_its_file_on();
     what_was_accepted_is_recovered();
+}
+
+/// A start applies the changes of a file that a server wrote, whatever is torn behind it. The head of its data file begins such
+/// a file, and where that was begun and isn't whole, the entries are those of the data file.
+pub fn a_start_applies_what_was_written()
+    ensures exact { StartsWithWhatWasWritten }
+    ensures head { BeginsWithTheHeadOfItsData }
+    ensures torn { StartsWithTheDataWhereTheHeadIsTorn }
+{
+    a_file_begins_with_its_head();
+    a_written_file_is_read_again();
+}
+
+/// A start after a crash has what was shown: the entries are those that the changes left which the reply may show, and a front
+/// of the others; and from there the server writes its file on.
+pub fn a_start_after_a_crash_has_what_was_shown()
+    ensures exact { AStartAfterACrashHasWhatWasShown }
+{
+    a_crash_keeps_what_was_shown();
+    a_start_applies_what_was_written();
 }

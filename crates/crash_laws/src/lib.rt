@@ -1,4 +1,5 @@
-//! The laws of crashes: what a server that keeps its changes in a file leaves in it, and what a crash keeps of that.
+//! The laws of crashes: what a server that keeps its changes in a file leaves in it, what a crash keeps of that, and what a
+//! start makes of it again.
 #![tactic(auto)]
 
 pub mod laws;
