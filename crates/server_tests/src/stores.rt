@@ -58,28 +58,27 @@ fn what_a_file_of_changes_leaves_is_served(rt: HostRuntime) -> Result<(), Fail> 
     Ok(())
 }
 
-/// Whether the file has a whole head, the call of the link that fails, what is put, and what the connection gets. The calls
+/// The parts of the file of changes, the call of the link that fails, what is put, and what the connection gets. The calls
 /// of the store are numbered with those that open the address and that ask for an event.
 #[rattlefmt::skip]
-static FAILING: [(bool, u64, &str, Status, &[u8]); 10] = [
-    (false, 0, "store fault\n", Status::StoreFault, b""),
-    (false, 1, "store fault\n", Status::StoreFault, b""),
-    (false, 2, "store fault\n", Status::StoreFault, b""),
-    (false, 3, "link fault\n", Status::LinkFault, b""),
-    (false, 4, "changes 0 torn 0\nlistening 127.0.0.1:389\nstore fault\n", Status::StoreFault, b""),
-    (false, 5, "changes 0 torn 0\nlistening 127.0.0.1:389\nlink fault\n", Status::LinkFault, b""),
+static FAILING: [(&[&str], u64, &str, Status, &[u8]); 10] = [
+    (&[], 0, "store fault\n", Status::StoreFault, b""),
+    (&[], 1, "store fault\n", Status::StoreFault, b""),
+    (&[], 2, "store fault\n", Status::StoreFault, b""),
+    (&[], 3, "link fault\n", Status::LinkFault, b""),
+    (&[], 4, "changes 0 torn 0\nlistening 127.0.0.1:389\nstore fault\n", Status::StoreFault, b""),
+    (&[], 5, "changes 0 torn 0\nlistening 127.0.0.1:389\nlink fault\n", Status::LinkFault, b""),
     // the record is stored before the reply is sent
-    (false, 8, "changes 0 torn 0\nlistening 127.0.0.1:389\nstore fault\n", Status::StoreFault, b""),
-    (false, 9, "changes 0 torn 0\nlistening 127.0.0.1:389\nstore fault\n", Status::StoreFault, DELETED),
+    (&[], 8, "changes 0 torn 0\nlistening 127.0.0.1:389\nstore fault\n", Status::StoreFault, b""),
+    (&[], 9, "changes 0 torn 0\nlistening 127.0.0.1:389\nstore fault\n", Status::StoreFault, DELETED),
     // behind a whole head no other is stored
-    (true, 2, "link fault\n", Status::LinkFault, b""),
-    (true, 7, "changes 0 torn 0\nlistening 127.0.0.1:389\nstore fault\n", Status::StoreFault, b""),
+    (&[SITE_HEAD], 2, "link fault\n", Status::LinkFault, b""),
+    (&[SITE_HEAD], 7, "changes 0 torn 0\nlistening 127.0.0.1:389\nstore fault\n", Status::StoreFault, b""),
 ];
 
 #[test]
 fn a_store_that_fails_ends_the_serving(rt: HostRuntime) -> Result<(), Fail> {
-    for (headed, call, put, status, said) in &FAILING {
-        let parts: &[&str] = if *headed { &[SITE_HEAD] } else { &[] };
+    for (parts, call, put, status, said) in &FAILING {
         let mut link = deleting(rt.alloc(), DELETE, &[*call])?;
         let ran = serve_stored(rt.alloc(), LINE, parts, &mut link)?;
         assert_eq!(rt; ran.end(), (*put, *status), "the call {call}");
