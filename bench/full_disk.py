@@ -88,7 +88,9 @@ def main():
         before = sum(client.acknowledged for client in clients)
         with serving(asked.program, data, changes) as (server, port):
             clients = run_clients(port, everyone)
-            time.sleep(0.05)
+            until = time.monotonic() + PATIENCE
+            while time.monotonic() < until and not any(client.acknowledged for client in clients):
+                time.sleep(0.05)
             server.kill()
             for client in clients:
                 client.join()
