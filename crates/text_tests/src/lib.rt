@@ -9,4 +9,6 @@ mod limits;
 #[cfg(test)]
 mod parts;
 #[cfg(test)]
+mod stops;
+#[cfg(test)]
 mod subtrees;
