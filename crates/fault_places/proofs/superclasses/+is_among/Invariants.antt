@@ -1,0 +1,6 @@
+-- Fewer types are left.
+use Rattle.std.proofs.Common.{length}
+use Rattle.fault_places.proofs.superclasses.+is_among.Given as goal
+
+abbrev pub decreases-is_among : goal.decreases-is_among
+decreases-is_among l = length l.kinds.now
