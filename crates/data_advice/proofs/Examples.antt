@@ -20,6 +20,3 @@ no_point = refl
 
 all_inside : outside_note 0 ≡ []
 all_inside = refl
-
-two_outside : outside_note 2 ≡ codes "note: entries in no administrative area, which nobody may find: 2\n"
-two_outside = refl

@@ -36,6 +36,13 @@ fn is_specific_from(tree: &Tree, suffix: EntryNo) -> bool
     false
 }
 
+// Whether there are no numbers.
+fn are_none(numbers: &[EntryNo]) -> bool
+    ensures exact { result ≡ (length numbers.now == 0) }
+{
+    numbers.is_empty()
+}
+
 // Whether the entry of the number is in no area.
 fn is_outside_at(alloc: Global, tree: &Tree, no: EntryNo) -> Result<bool, NoMemory>
     ensures ok { IfOk result (λ found. found ≡ passes (is_outside (entries_of tree.now)) tree.now no.0) }
@@ -43,7 +50,10 @@ fn is_outside_at(alloc: Global, tree: &Tree, no: EntryNo) -> Result<bool, NoMemo
 {
     tree.entries_form_a_tree();
     match tree.at(no) {
-        Some(_) => Ok(areas(alloc, tree, no)?.is_empty()),
+        Some(_) => {
+            let points = areas(alloc, tree, no)?;
+            Ok(are_none(points.as_slice()))
+        }
         None => Ok(false),
     }
 }
