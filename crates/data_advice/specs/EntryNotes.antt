@@ -1,9 +1,8 @@
 -- What is noted of an entry: its items, its subtree specification, its passwords.
 use Rattle.std.specs.Prelude.{ℕ, ◌==◌, Bool, false, not, ◌&&◌, List, [], ◌∷◌, ◌++◌, take, codes, Option, Some, None, if◌then◌else◌}
 use Rattle.std.specs.List.{list_any}
-use Rattle.std.specs.Option.{option_map_or}
 use Rattle.std.specs.Str.{bytes_eq}
-use Rattle.dir_tree.specs.dn_names.name.Names.{Keyed, RdnSequence}
+use Rattle.dir_tree.specs.dn_names.name.Names.{Keyed}
 use Rattle.dir_tree.specs.Entry.{EntryInformation, values_of}
 use Rattle.dir_tree.specs.tree.Trees.{named_in, superior_name}
 use Rattle.subtree_spec.specs.Subtrees.{Subtree}

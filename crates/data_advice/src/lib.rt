@@ -2,9 +2,9 @@
 //! accept nothing, and entries in no administrative area.
 #![tactic(auto)]
 
-mod notes;
 mod entries;
 mod items;
+mod notes;
 mod noting;
 mod passwords;
 mod points;

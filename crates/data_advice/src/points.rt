@@ -79,7 +79,10 @@ fn put_outside(count: usize, out: &mut String) -> Result<(), NoMemory>
     if count == 0 {
         Ok(())
     } else {
-        write!(out, "note: entries in no administrative area, which nobody may find: {count}\n")
+        write!(
+            out,
+            "note: entries in no administrative area, which nobody may find: {count}\n"
+        )
     }
 }
 
@@ -87,7 +90,9 @@ fn put_outside(count: usize, out: &mut String) -> Result<(), NoMemory>
 fn put_no_point(out: &mut String) -> Result<(), NoMemory>
     ensures ok { OnOk result (string_bytes out.new ≡ string_bytes out.old ++ no_point_note) }
 {
-    out.push_str("note: no entry is an access control specific point (administrativeRole): nobody may do anything\n")
+    out.push_str(
+        "note: no entry is an access control specific point (administrativeRole): nobody may do anything\n",
+    )
 }
 
 // Writes what is noted of the points of the entries from the suffix on.

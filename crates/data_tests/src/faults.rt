@@ -6,7 +6,11 @@ use std::test::Fail;
 // A file, and what is said of it.
 type Row = (&'static str, &'static str);
 
-fn check_rows(rt: &impl Abort, alloc: std::alloc::Global, rows: &'static [Row]) -> Result<(), Fail> {
+fn check_rows(
+    rt: &impl Abort,
+    alloc: std::alloc::Global,
+    rows: &'static [Row],
+) -> Result<(), Fail> {
     for (text, want) in rows {
         let said = why_refused(alloc, text.as_bytes())?;
         assert_eq!(rt; said.as_str(), *want, "{text}");
@@ -85,10 +89,7 @@ fn each_fault_of_a_line_is_told_with_its_place(rt: HostRuntime) -> Result<(), Fa
 }
 
 static ENTRIES: [Row; 9] = [
-    (
-        "dn: o=x\no: x\n",
-        "why: line 1: objectClass is missing\n",
-    ),
+    ("dn: o=x\no: x\n", "why: line 1: objectClass is missing\n"),
     (
         "dn: o=x\nobjectClass: organization\nobjectClass: 1.3.6.1.4.1.32473.1\n",
         "why: line 1: no class \"1.3.6.1.4.1.32473.1\"\n",
@@ -163,9 +164,14 @@ fn each_mistake_of_an_item_is_told_with_its_line_its_value_and_its_octet(
 ) -> Result<(), Fail> {
     let alloc = rt.alloc();
     for (front, rest, word) in &MISTAKES {
-        let text = format!(in alloc; "dn: o=x\nobjectClass: organization\nadministrativeRole: accessControlSpecificArea\n\ndn: cn=s,o=x\nobjectClass: subentry\nobjectClass: accessControlSubentry\nsubtreeSpecification: {{ }}\nprescriptiveACI: {{ identificationTag \"a\", precedence 1, authenticationLevel none,\n  itemOrUserFirst userFirst:{{ userClasses {{ }}, userPermissions {{ }} }} }}\nprescriptiveACI: {front}{rest}\n")?;
+        let text = format!(in alloc;
+            "dn: o=x\nobjectClass: organization\nadministrativeRole: accessControlSpecificArea\n\ndn: cn=s,o=x\nobjectClass: subentry\nobjectClass: accessControlSubentry\nsubtreeSpecification: {{ }}\nprescriptiveACI: {{ identificationTag \"a\", precedence 1, authenticationLevel none,\n  itemOrUserFirst userFirst:{{ userClasses {{ }}, userPermissions {{ }} }} }}\nprescriptiveACI: {front}{rest}\n"
+        )?;
         let said = why_refused(alloc, text.as_bytes())?;
-        let want = format!(in alloc; "why: line 11, prescriptiveACI, value 2, octet {}: {word}\n", front.len() + 1)?;
+        let want = format!(in alloc;
+            "why: line 11, prescriptiveACI, value 2, octet {}: {word}\n",
+            front.len() + 1
+        )?;
         assert_eq!(&rt; said.as_str(), want.as_str(), "{text}");
     }
     Ok(())

@@ -1,18 +1,13 @@
 -- The definitions on known cases.
-use Rattle.std.proofs.Common.{◌≡◌, [], ◌∷◌, true, false, refl}
+use Rattle.std.proofs.Common.{◌≡◌, true, false, refl}
 use Rattle.std.specs.Prelude.{codes, ℕ, Some, None, Ok, Err}
 use Rattle.dir_tree.specs.schema_tables.Attributes.{attributes}
 use Rattle.dir_tree.specs.schema_tables.classes.Classes.{classes}
 use Rattle.dir_tree.specs.dn_names.name.Names.{Keyed}
 use Rattle.subtree_spec.specs.declared.error.BadText.TheVariants as fault
-use Rattle.fault_places.specs.Saying.{value_at, stop_by}
+use Rattle.fault_places.specs.Saying.{stop_by}
 use Rattle.fault_places.specs.LineFaults.{unknown_type}
 use Rattle.fault_places.specs.ClassFaults.{is_required_by, is_permitted_by}
-
--- the second value of prescriptiveACI
-a_place : value_at 14 32 2 ≡ codes "why: line 14, prescriptiveACI, value 2"
-unfolding attributes
-a_place = refl
 
 -- a part that breaks its rule comes before the table
 a_part : stop_by {A = ℕ} (Err (fault.Part 3)) (Some 9) ≡ Some (Some 3)
@@ -21,7 +16,7 @@ a_part = refl
 no_grammar : stop_by {A = ℕ} (Err fault.Text) (Some 9) ≡ Some (Some 9)
 no_grammar = refl
 
-a_good_text : stop_by (Ok 1) (Some 9) ≡ None
+a_good_text : stop_by {A = ℕ} (Ok 1) (Some 9) ≡ None
 a_good_text = refl
 
 -- a record without an empty line before it

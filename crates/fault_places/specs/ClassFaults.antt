@@ -1,6 +1,6 @@
 -- What is said of an entry whose classes are broken (objectClassViolation, 65), cause by cause, and of one with two values
 -- of a single-valued type (19). All causes that are the case are said.
-use Rattle.std.specs.Prelude.{ℕ, nat_lt, Bool, false, not, ◌&&◌, ◌||◌, List, [], ◌∷◌, ◌++◌, length, find, filter, flat_map, codes, Option, Some, None, is_none, option_map, if◌then◌else◌}
+use Rattle.std.specs.Prelude.{ℕ, nat_lt, Bool, false, not, ◌&&◌, ◌||◌, List, [], ◌∷◌, ◌++◌, length, find, filter, flat_map, codes, Option, Some, None, is_none, if◌then◌else◌}
 use Rattle.std.specs.List.{list_any}
 use Rattle.std.specs.Option.{option_map_or}
 use Rattle.dir_tree.specs.schema_tables.Attributes.{name_of, is_single}

@@ -1,5 +1,5 @@
 -- What is said of an entry that may not join those before it, cause by cause.
-use Rattle.std.specs.Prelude.{ℕ, ◌==◌, Bool, List, [], ◌∷◌, ◌++◌, codes, Option, Some, None, if◌then◌else◌}
+use Rattle.std.specs.Prelude.{ℕ, ◌==◌, List, [], codes, Option, Some, None, if◌then◌else◌}
 use Rattle.dir_tree.specs.Entry.{EntryInformation}
 use Rattle.dir_tree.specs.Points.{is_subentry}
 use Rattle.dir_tree.specs.tree.Trees.{named_in, superior_name}

@@ -1,12 +1,11 @@
 -- What is said of a data file that is refused (RFC 2849): where in its first bad record the fault is. Nothing is said of one
 -- that is loaded.
-use Rattle.std.specs.Prelude.{ℕ, List, [], ◌∷◌, ◌++◌, codes, Result, Ok, Err}
+use Rattle.std.specs.Prelude.{ℕ, List, [], ◌∷◌, codes, Result, Ok, Err}
 use Rattle.dir_tree.specs.Entry.{EntryInformation}
 use Rattle.dir_tree.specs.tree.Trees.{put_in}
 use Rattle.ldif_records.specs.declared.types.Record.{Record}
 use Rattle.ldif_records.specs.reading.Faults.{LineFault}
 use Rattle.ldif_records.specs.reading.Faults as reading
-use Rattle.ldif_records.specs.declared.types.LineCause.{LineCause}
 use Rattle.ldif_records.specs.lines.Places.{records_from, file_start}
 use Rattle.ldif_load.specs.load.Loading.{RecordFault, entry_of_record, loaded_entry}
 use Rattle.ldif_load.specs.load.Loading as loading

@@ -1,5 +1,5 @@
 -- How a fault of a data file is said in a line: where it stands, and what is in the way.
-use Rattle.std.specs.Prelude.{ℕ, ◌+◌, List, [], ◌∷◌, ◌++◌, codes, decimal, Option, Some, None, Result, Ok, Err}
+use Rattle.std.specs.Prelude.{ℕ, ◌+◌, List, [], ◌++◌, codes, decimal, Option, Some, None, Result, Ok, Err}
 use Rattle.dir_tree.specs.schema_tables.Attributes.{name_of}
 use Rattle.subtree_spec.specs.declared.error.BadText.{BadText}
 use Rattle.subtree_spec.specs.declared.error.BadText.TheVariants as fault

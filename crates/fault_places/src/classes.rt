@@ -18,7 +18,9 @@ use crate::superclasses::{is_permitted_by, is_required_by};
 use crate::values::first_line;
 use dir_tree::Entry;
 use dir_tree::dn_names::Value;
-use dir_tree::schema_tables::{AttrId, ClassId, ClassKind, class_kind, class_with, is_or_above, row};
+use dir_tree::schema_tables::{
+    AttrId, ClassId, ClassKind, class_kind, class_with, is_or_above, row,
+};
 use ldif_records::Record;
 use text_stops::put_shown;
 
@@ -134,12 +136,7 @@ fn put_apart(values: &[Value], out: &mut String) -> Result<(), NoMemory>
 }
 
 // Writes what is wrong at a line, and the classes that are apart from others.
-fn put_said_apart(
-    line: u64,
-    text: &str,
-    values: &[Value],
-    out: &mut String,
-) -> Result<(), NoMemory>
+fn put_said_apart(line: u64, text: &str, values: &[Value], out: &mut String) -> Result<(), NoMemory>
     ensures ok { OnOk result (string_bytes out.new ≡ string_bytes out.old
         ++ said line (text.now ++ (flat_map quoted_class (filter (is_apart values.now) values.now) ++ codes "\n"))) }
 {
@@ -188,12 +185,7 @@ fn requiring<'a>(kind: AttrId, values: &'a [Value]) -> Option<&'a Value>
 }
 
 // Writes that a type is missing, which the class requires.
-fn put_missing(
-    line: u64,
-    kind: AttrId,
-    value: &Value,
-    out: &mut String,
-) -> Result<(), NoMemory>
+fn put_missing(line: u64, kind: AttrId, value: &Value, out: &mut String) -> Result<(), NoMemory>
     ensures ok { OnOk result (string_bytes out.new ≡ string_bytes out.old ++ missing_said line kind.0 (Some value.now)) }
 {
     put_said_both(
@@ -236,17 +228,18 @@ fn put_unpermitted(
     if is_permitted(kind, listed(entry)) || is_permitted_besides(entry, kind) {
         Ok(())
     } else {
-        put_said_kind(first_line(kind, given), "no listed class allows ", kind, "\n", out)
+        put_said_kind(
+            first_line(kind, given),
+            "no listed class allows ",
+            kind,
+            "\n",
+            out,
+        )
     }
 }
 
 // Writes what is wrong with the type.
-fn put_kind(
-    given: &Record,
-    entry: &Entry,
-    kind: AttrId,
-    out: &mut String,
-) -> Result<(), NoMemory>
+fn put_kind(given: &Record, entry: &Entry, kind: AttrId, out: &mut String) -> Result<(), NoMemory>
     ensures ok { OnOk result (string_bytes out.new ≡ string_bytes out.old ++ kind_said given.now entry.now kind.0) }
 {
     if entry.has_kind(kind) {
@@ -280,7 +273,11 @@ fn put_alone(line: u64, entry: &Entry, out: &mut String) -> Result<(), NoMemory>
     ensures ok { OnOk result (string_bytes out.new ≡ string_bytes out.old ++ alone_said line entry.now) }
 {
     if entry.has_class("2.5.17.1") && !entry.has_class("2.5.17.0") {
-        put_said(line, "accessControlSubentry is listed without subentry\n", out)
+        put_said(
+            line,
+            "accessControlSubentry is listed without subentry\n",
+            out,
+        )
     } else {
         Ok(())
     }
@@ -328,7 +325,13 @@ fn put_doubled(
     ensures ok { OnOk result (string_bytes out.new ≡ string_bytes out.old ++ doubled_said given.now entry.now kind.0) }
 {
     if is_single(kind) && entry.values(kind).len() > 1 {
-        put_said_kind(first_line(kind, given), "", kind, " may have one value, and has more\n", out)
+        put_said_kind(
+            first_line(kind, given),
+            "",
+            kind,
+            " may have one value, and has more\n",
+            out,
+        )
     } else {
         Ok(())
     }

@@ -84,7 +84,11 @@ pub(crate) fn put_entry_fault(
 {
     match cause {
         LoadCause::Twice => put_said(given.line, "a record before it has the name\n", out),
-        LoadCause::Order => put_said(given.line, "no record before it is the entry above it\n", out),
+        LoadCause::Order => put_said(
+            given.line,
+            "no record before it is the entry above it\n",
+            out,
+        ),
         LoadCause::Limit => put_said(
             given.line,
             "there are 200000 entries or 256 access control subentries already, or the values have more than 67108864 octets\n",

@@ -26,7 +26,10 @@ fn put_part(index: usize, out: &mut String) -> Result<(), NoMemory>
         ++ (decimal (index + 1) ++ codes " has a type that names nothing, or no value of it"))) }
 {
     let number = index as u128 + 1;
-    write!(out, ": part {number} has a type that names nothing, or no value of it")
+    write!(
+        out,
+        ": part {number} has a type that names nothing, or no value of it"
+    )
 }
 
 /// Writes why the octets are no name, where they are none, or the empty one.

@@ -1,7 +1,7 @@
 -- What may stand where in access control items (X.501 18.4.2) and subtree specifications (RFC 3672 Appendix A), in their
 -- generic string encoding (RFC 3641): a table, a row for each component, member, alternative and word of a form. Components
 -- stand in the order of their rows. In the short spelling a level stands as a word and a user as a string.
-use Rattle.std.specs.Prelude.{ℕ, ◌==◌, Bool, true, false, ◌&&◌, List, [], ◌∷◌, codes, find, Option, if◌then◌else◌}
+use Rattle.std.specs.Prelude.{ℕ, Bool, true, false, ◌&&◌, List, [], ◌∷◌, codes, find, Option, if◌then◌else◌}
 use Rattle.std.specs.List.{list_any}
 use Rattle.std.specs.Str.{bytes_eq}
 use Prim.Native.String.{String}

@@ -90,7 +90,12 @@ fn touch(spots: &mut Vec<Spot>, touches: bool, place: usize) -> Result<(), Alloc
 }
 
 // An octet that begins something.
-fn begin(spots: &mut Vec<Spot>, touches: bool, place: usize, class: Class) -> Result<Mode, AllocError>
+fn begin(
+    spots: &mut Vec<Spot>,
+    touches: bool,
+    place: usize,
+    class: Class,
+) -> Result<Mode, AllocError>
     ensures mode { IfOk result (λ mode. mode ≡ (begin touches place class).mode) }
     ensures spots { OnOk result (spots.new.items ≡ spots.old.items ++ (begin touches place class).spots) }
 {
@@ -132,7 +137,12 @@ fn ended(
 }
 
 // An octet in a word or behind it.
-fn in_word(spots: &mut Vec<Spot>, start: usize, place: usize, class: Class) -> Result<Mode, AllocError>
+fn in_word(
+    spots: &mut Vec<Spot>,
+    start: usize,
+    place: usize,
+    class: Class,
+) -> Result<Mode, AllocError>
     ensures mode { IfOk result (λ mode. mode ≡ (in_word start place class).mode) }
     ensures spots { OnOk result (spots.new.items ≡ spots.old.items ++ (in_word start place class).spots) }
 {
@@ -153,7 +163,12 @@ fn in_text(start: usize, class: Class) -> Mode
 }
 
 // An octet behind a quotation mark in a string.
-fn quoted(spots: &mut Vec<Spot>, start: usize, place: usize, class: Class) -> Result<Mode, AllocError>
+fn quoted(
+    spots: &mut Vec<Spot>,
+    start: usize,
+    place: usize,
+    class: Class,
+) -> Result<Mode, AllocError>
     ensures mode { IfOk result (λ mode. mode ≡ (quoted start place class).mode) }
     ensures spots { OnOk result (spots.new.items ≡ spots.old.items ++ (quoted start place class).spots) }
 {

@@ -120,8 +120,16 @@ static ITEMS: [(&str, &str, &str); 17] = [
 static SUBTREES: [(&str, &str, &str); 6] = [
     ("{ base ", "ou=people }", "\"ou=people\""),
     ("{ minimum 1, ", "base \"ou=people\" }", "\"base\""),
-    ("{ specificExclusions { chopBefore ", "\"ou=a\" } }", "\"ou=a\""),
-    ("{ specificExclusions { ", "chopbefore:\"ou=a\" } }", "\"chopbefore\""),
+    (
+        "{ specificExclusions { chopBefore ",
+        "\"ou=a\" } }",
+        "\"ou=a\"",
+    ),
+    (
+        "{ specificExclusions { ",
+        "chopbefore:\"ou=a\" } }",
+        "\"chopbefore\"",
+    ),
     ("{ base \"ou=people\"", "", "the end"),
     ("{ base \"ou=people }", "", "the end"),
 ];

@@ -7,5 +7,5 @@ pub four_written : (result : Result (Unit {0}) AllocError) (old one two three ne
     → OnOk result (new ≡ three ++ d) → OnOk result (new ≡ old ++ (a ++ (b ++ (c ++ d))))
 four_written result old one two three new a b c d first second third last =
     let all : three ++ d ≡ old ++ (a ++ (b ++ (c ++ d))) =
-        ap (λ n. n ++ d) (third ∙ ap (λ n. n ++ c) (second ∙ ap (λ n. n ++ b) first)) ∙ simp append_assoc in
+    ap (λ n. n ++ d) (third ∙ ap (λ n. n ++ c) (second ∙ ap (λ n. n ++ b) first)) ∙ simp append_assoc in
     rw (← all) last

@@ -5,7 +5,7 @@ use Rattle.dir_tree.specs.tree.Trees.{put_in}
 use Rattle.ldif_records.specs.declared.types.Record.{Record}
 use Rattle.ldif_records.specs.reading.Faults.{LineFault}
 use Rattle.ldif_records.specs.lines.Places.{records_from, file_start}
-use Rattle.ldif_load.specs.load.Loading.{◌>>=◌, RecordFault, loaded_entry}
+use Rattle.ldif_load.specs.load.Loading.{◌>>=◌, loaded_entry}
 use Rattle.ldif_load.specs.load.DataFile.{in_file, loads_after, loads_records, loads}
 use Rattle.fault_places.specs.Refusals.{by_record, record_said, refused_after, refused_records, refusal_text}
 

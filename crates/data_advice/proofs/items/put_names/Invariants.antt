@@ -1,5 +1,5 @@
 -- What is written so far, and what is left.
-use Rattle.std.proofs.Common.{◌≡◌, ◌++◌, drop, map}
+use Rattle.std.proofs.Common.{◌≡◌, ◌++◌, drop}
 use Rattle.std.specs.Prelude.{flat_map, string_bytes}
 use Rattle.dir_tree.specs.tree.Numbered.{entries_of}
 use Rattle.data_advice.specs.Noting.{place_of}

@@ -17,7 +17,7 @@ loop-subtree-preserved c =
     let item = c.subtree-item.result in
     let note = subtree_note (entries_of c.args.tree.now) (place_of c.args.spot.now) in
     let rest : drop index specs ≡ item ∷ drop (index + 1) specs =
-        rw add-one (drop-cons specs index item c.loop-subtree-test.true) ∙ ap (λ (first : Spec). first ∷ drop (index + 1) specs) (sym c.subtree-item.is) in
+    rw add-one (drop-cons specs index item c.loop-subtree-test.true) ∙ ap (λ (first : Spec). first ∷ drop (index + 1) specs) (sym c.subtree-item.is) in
     written_more (string_bytes c.loop-subtree.out) (string_bytes c.put_subtree.new.out) (note (subtree_of item))
     (flat_map note (map subtree_of (drop (index + 1) specs))) c.in_ok-put_subtree.ensures.ok
     ∙ ap (λ (left : List Spec). string_bytes c.loop-subtree.out ++ flat_map note (map subtree_of left)) (sym rest)

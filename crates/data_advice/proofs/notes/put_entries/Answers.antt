@@ -1,5 +1,5 @@
 -- All entries are those from the suffix on.
-use Rattle.std.proofs.Common.{◌≡◌, ◌++◌, List, ◌∙◌, sym, ap}
+use Rattle.std.proofs.Common.{◌++◌, List, ◌∙◌, sym, ap}
 use Rattle.std.specs.Prelude.{flat_map, string_bytes}
 use Rattle.std.proofs.lemmas.List.{append-nil}
 use Rattle.dir_tree.specs.Entry.{EntryInformation}

@@ -1,6 +1,5 @@
 -- No more entries are counted than the tree has.
 use Rattle.std.proofs.Common.{◌≤◌, length, arith}
-use Rattle.std.specs.Prelude.{filter}
 use Rattle.dir_tree.specs.Scope.{scoped}
 use Rattle.dir_tree.specs.declared.scope.Scope.TheVariants.{Sub}
 use Rattle.dir_tree.specs.tree.Numbered.{entries_of}

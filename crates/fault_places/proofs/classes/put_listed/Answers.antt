@@ -11,11 +11,11 @@ returns c =
     let entry = c.args.entry.now in
     let given = c.args.given.now in
     let first : string_bytes c.put_all_unknown.new.out ≡ string_bytes c.args.out.now ++ flat_map (unknown_class given.line) (listed entry) =
-        rw c.listed.ensures.exact at c.in_ok-put_all_unknown.ensures.ok in
+    rw c.listed.ensures.exact at c.in_ok-put_all_unknown.ensures.ok in
     let second : string_bytes c.put_structural.new.out ≡ string_bytes c.put_all_unknown.new.out ++ structural_said given.line (listed entry) =
-        rw c.listed-2.ensures.exact at c.in_ok-put_structural.ensures.ok in
+    rw c.listed-2.ensures.exact at c.in_ok-put_structural.ensures.ok in
     let third : string_bytes c.put_kinds.new.out ≡ string_bytes c.put_structural.new.out ++ flat_map (kind_said given entry) all_kinds =
-        rw c.kinds.ensures.exact at c.in_ok-put_kinds.ensures.ok in
+    rw c.kinds.ensures.exact at c.in_ok-put_kinds.ensures.ok in
     record {
       ok = four_written c.put_alone.result _ _ _ _ (string_bytes c.put_alone.new.out) _ _ _ (alone_said given.line entry) first second third c.put_alone.ensures.ok;
     }

@@ -12,7 +12,7 @@ returns-in-Some c =
     let rows = c.args.tree.now in
     let name = c.name-name.result.now in
     let above : Some c.in-Some.number.0 ≡ find_name (superior_name name) rows =
-        c.in-Some.ensures.exact ∙ front_of_superior _ _ _ (c.saturating_sub.ensures ∙ ap (λ (len : ℕ). len - 1) c.len.ensures.exact) in
+    c.in-Some.ensures.exact ∙ front_of_superior _ _ _ (c.saturating_sub.ensures ∙ ap (λ (len : ℕ). len - 1) c.len.ensures.exact) in
     record {
       exact = c.at.ensures.exact ∙ ap (λ (found : Option ℕ). option_and_then (λ id. entry_of id rows) found) above
           ∙ entry_of-found (superior_name name) rows c.entries_form_a_tree.ensures.exact.distinct
@@ -24,7 +24,7 @@ returns-in-None c =
     let rows = c.args.tree.now in
     let name = c.name-name.result.now in
     let above : None ≡ find_name (superior_name name) rows =
-        c.in-None.ensures.exact ∙ front_of_superior _ _ _ (c.saturating_sub.ensures ∙ ap (λ (len : ℕ). len - 1) c.len.ensures.exact) in
+    c.in-None.ensures.exact ∙ front_of_superior _ _ _ (c.saturating_sub.ensures ∙ ap (λ (len : ℕ). len - 1) c.len.ensures.exact) in
     record {
       exact = ap (λ (found : Option ℕ). option_and_then (λ id. entry_of id rows) found) above
           ∙ entry_of-found (superior_name name) rows c.entries_form_a_tree.ensures.exact.distinct

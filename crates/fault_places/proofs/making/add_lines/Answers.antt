@@ -15,10 +15,10 @@ returns-then-not-branch c =
     let index = c.loop-line.line-index in
     let item = c.line-item.result in
     let rest : drop index lines ≡ item ∷ drop (index + 1) lines =
-        rw add-one (drop-cons lines index item c.loop-line-test.true) ∙ ap (λ (first : RecordLine). first ∷ drop (index + 1) lines) (sym c.line-item.is) in
+    rw add-one (drop-cons lines index item c.loop-line-test.true) ∙ ap (λ (first : RecordLine). first ∷ drop (index + 1) lines) (sym c.line-item.is) in
     let step = ap (with_all c.loop-line.entry) rest
-        ∙ all_by c.loop-line.entry c.add_line.new.entry item (drop (index + 1) lines) c.in_ok-add_line.field-0 c.in_ok-add_line.ensures.ok
-        ∙ ap (λ (added : Bool). option_and_then (λ next. with_all next (drop (index + 1) lines)) (taken added c.add_line.new.entry)) c.if-not-branch.true in
+    ∙ all_by c.loop-line.entry c.add_line.new.entry item (drop (index + 1) lines) c.in_ok-add_line.field-0 c.in_ok-add_line.ensures.ok
+    ∙ ap (λ (added : Bool). option_and_then (λ next. with_all next (drop (index + 1) lines)) (taken added c.add_line.new.entry)) c.if-not-branch.true in
     record { ok = sym step ∙ c.loop-line.invariant }
 
 pub loop-line-preserved : goal.loop-line-preserved
@@ -27,10 +27,10 @@ loop-line-preserved c =
     let index = c.loop-line.line-index in
     let item = c.line-item.result in
     let rest : drop index lines ≡ item ∷ drop (index + 1) lines =
-        rw add-one (drop-cons lines index item c.loop-line-test.true) ∙ ap (λ (first : RecordLine). first ∷ drop (index + 1) lines) (sym c.line-item.is) in
+    rw add-one (drop-cons lines index item c.loop-line-test.true) ∙ ap (λ (first : RecordLine). first ∷ drop (index + 1) lines) (sym c.line-item.is) in
     let step = ap (with_all c.loop-line.entry) rest
-        ∙ all_by c.loop-line.entry c.add_line.new.entry item (drop (index + 1) lines) c.in_ok-add_line.field-0 c.in_ok-add_line.ensures.ok
-        ∙ ap (λ (added : Bool). option_and_then (λ next. with_all next (drop (index + 1) lines)) (taken added c.add_line.new.entry)) c.if-not-branch.false in
+    ∙ all_by c.loop-line.entry c.add_line.new.entry item (drop (index + 1) lines) c.in_ok-add_line.field-0 c.in_ok-add_line.ensures.ok
+    ∙ ap (λ (added : Bool). option_and_then (λ next. with_all next (drop (index + 1) lines)) (taken added c.add_line.new.entry)) c.if-not-branch.false in
     sym step ∙ c.loop-line.invariant
 
 pub returns : goal.returns

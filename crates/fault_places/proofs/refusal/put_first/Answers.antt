@@ -22,15 +22,15 @@ records-preserved c =
 pub returns-in-Refused : goal.returns-in-Refused
 returns-in-Refused c =
     let step : IsRefused c.args.text.now c.records.at (entries_of c.records.tree) c.in-Refused.line c.in-Refused.cause × (c.meet.new.tree ≡ c.records.tree) =
-        rw c.in-Refused.is at c.in_ok-to.ensures.ok in
+    rw c.in-Refused.is at c.in_ok-to.ensures.ok in
     let whole = c.records.invariant.whole
-        ∙ ap (λ (rows : List Numbered). refused_after (entries_of rows) (records_from c.args.text.now c.records.at)) (sym step.1) in
+    ∙ ap (λ (rows : List Numbered). refused_after (entries_of rows) (records_from c.args.text.now c.records.at)) (sym step.1) in
     record { ok = rw (whole, ← c.records.invariant.kept) c.put_record_at.ensures.ok }
 
 pub returns-in-Misread : goal.returns-in-Misread
 returns-in-Misread c =
     let is : first_of (records_from c.args.text.now c.records.at) ≡ Err (reading.Bad c.in-Misread.line c.in-Misread.cause) =
-        rw c.in-Misread.is at c.in_ok-to.ensures.ok in
+    rw c.in-Misread.is at c.in_ok-to.ensures.ok in
     let whole = c.records.invariant.whole ∙ sym (at_misread (entries_of c.records.tree) (records_from c.args.text.now c.records.at) _ _ is) in
     record { ok = rw (whole, ← c.records.invariant.kept) c.put_bad_line.ensures.ok }
 

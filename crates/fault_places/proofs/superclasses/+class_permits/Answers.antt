@@ -1,7 +1,6 @@
 -- The class itself has it not: its superclasses.
-use Rattle.std.proofs.Common.{◌++◌, sym, ap, ◌∙◌}
+use Rattle.std.proofs.Common.{◌++◌, sym, ◌∙◌}
 use Rattle.dir_tree.specs.schema_tables.classes.Classes.{required_of, allowed_of}
-use Rattle.aci_item.specs.Listed.{is_among}
 use Rattle.fault_places.proofs.superclasses.ClassLemmas.{from_above}
 use Rattle.fault_places.proofs.superclasses.+class_permits.Goals as goal
 

@@ -1,6 +1,6 @@
 -- The library tells whether octets are UTF-8.
 use Rattle.std.proofs.Common.{◌≡◌, refl, sym, ap, true, false}
-use Rattle.std.specs.Prelude.{Some, None, if◌then◌else◌}
+use Rattle.std.specs.Prelude.{Some}
 use Rattle.std.specs.Str.{is_utf8}
 use Rattle.text_stops.proofs.words.WordLemmas.{is_text, no_text}
 use Rattle.text_stops.proofs.words.as_text.Goals as goal

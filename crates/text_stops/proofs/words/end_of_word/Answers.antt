@@ -1,5 +1,5 @@
 -- No octet of the text ends a word.
-use Rattle.std.proofs.Common.{◌≡◌, ◌<◌, ◌≤◌, length, sym, arith}
+use Rattle.std.proofs.Common.{length, sym, arith}
 use Rattle.std.proofs.lemmas.List.Sums.{position_or_len_is}
 use Rattle.text_stops.specs.Stops.{ends_word}
 use Rattle.text_stops.proofs.words.end_of_word.Goals as goal
