@@ -1,8 +1,8 @@
 //! Data files as other programs write them: which are taken, and the line at which the others are refused (RFC 2849).
 
-use data_file::ldif_load::LoadCause;
-use data_file::ldif_load::ldif_records::LineCause;
 use data_file::{DataCause, DataFault, load};
+use ldif_load::LoadCause;
+use ldif_load::ldif_records::LineCause;
 use std::test::Fail;
 
 // A file, how many entries it has, and how it came to be.

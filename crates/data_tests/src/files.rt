@@ -1,8 +1,8 @@
 //! Data files: loaded whole, refused at a line, and written again (RFC 2849).
 
-use data_file::ldif_load::LoadCause;
-use data_file::ldif_load::ldif_records::LineCause;
 use data_file::{DataCause, DataFault, load, put_tree};
+use ldif_load::LoadCause;
+use ldif_load::ldif_records::LineCause;
 use std::alloc::Global;
 use std::test::Fail;
 use wire_io::{MemSink, PutFault};

@@ -3,13 +3,9 @@
 #![tactic(auto)]
 
 #[cfg(test)]
-mod advice;
-#[cfg(test)]
 mod changes;
 #[cfg(test)]
 mod exports;
-#[cfg(test)]
-mod faults;
 #[cfg(test)]
 mod files;
 #[cfg(test)]

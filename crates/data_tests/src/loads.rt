@@ -1,10 +1,10 @@
 //! Records of a data file, loaded: the entries that they leave, and each fault with its line and cause.
 use crate::reading::read_all;
-use data_file::ldif_load::ldif_records::{BadLine, KindText, Record, RecordLine, RecordLines};
-use data_file::ldif_load::{LoadFault, load_record};
 use dir_tree::dn_names::print;
 use dir_tree::schema_tables::row;
 use dir_tree::{Entry, Scope, Tree};
+use ldif_load::ldif_records::{BadLine, KindText, Record, RecordLine, RecordLines};
+use ldif_load::{LoadFault, load_record};
 use std::alloc::Global;
 use std::str;
 use std::test::Fail;

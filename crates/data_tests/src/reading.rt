@@ -1,5 +1,5 @@
 //! Data files, read whole.
-use data_file::ldif_load::ldif_records::{BadLine, Position, Record, next_record};
+use ldif_load::ldif_records::{BadLine, Position, Record, next_record};
 use std::alloc::Global;
 
 // The records of a file.

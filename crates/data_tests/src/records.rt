@@ -1,15 +1,15 @@
 //! Data files: what RFC 2849 makes of each form of line, and each bad line with its number and cause.
 
 ghost use Rattle.std.specs.Prelude.{IfOk};
-ghost use Rattle.data_file.specs.ldif_load.ldif_records.writing.Written.{AreInTable};
+ghost use Rattle.ldif_load.specs.ldif_records.writing.Written.{AreInTable};
 
 use crate::reading::read_all;
-use data_file::ldif_load::ldif_records::{
-    BadLine, LineCause, Position, Record, RecordLines, next_record, put_entry,
-};
 use dir_tree::Entry;
 use dir_tree::dn_names::{make_value, parse};
 use dir_tree::schema_tables::attr;
+use ldif_load::ldif_records::{
+    BadLine, LineCause, Position, Record, RecordLines, next_record, put_entry,
+};
 use std::alloc::Global;
 use std::process::Abort;
 use std::test::Fail;

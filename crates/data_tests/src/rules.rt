@@ -1,8 +1,8 @@
 //! Rules of entries: for each, the entries that break it first, and their nearest that don't.
-use data_file::ldif_load::schema_rules::{Broken, check_entry};
 use dir_tree::dn_names::{make_value, parse};
 use dir_tree::schema_tables::attr;
 use dir_tree::{Entry, Tree};
+use ldif_load::schema_rules::{Broken, check_entry};
 use std::alloc::Global;
 use std::process::Abort;
 use std::test::Fail;

@@ -9,6 +9,4 @@ mod limits;
 #[cfg(test)]
 mod parts;
 #[cfg(test)]
-mod stops;
-#[cfg(test)]
 mod subtrees;
