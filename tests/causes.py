@@ -42,7 +42,7 @@ HELP = """usage: aclserver COMMAND
 
   serve DATA ADDRESS [--sessions N] [--turns N] [--queues MIB] [--idle SECONDS] [--limit N] [--changes FILE]
   replay DATA SCRIPT [--dump] [--turns N]
-  check DATA [--changes FILE]
+  check DATA [--changes FILE | --why]
   dump DATA [--changes FILE]
   explain DATA WHO TARGET ITEM PERMISSION
   prove DATA WHO TARGET ITEM PERMISSION

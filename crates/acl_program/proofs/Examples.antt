@@ -16,7 +16,13 @@ use Rattle.acl_program.specs.Lines.{line_of, lines_of, replay_text}
 use Rattle.command_files.specs.declared.changing.ChangesCause.TheVariants.{Digest}
 use Rattle.command_files.specs.loading.Changing.{changed, unchanged}
 use Rattle.command_files.specs.declared.loading.SecondFile.TheVariants.{Script, Requests, Certificate}
-use Rattle.acl_program.specs.Outcomes.{BadChangesLine, BadLine, Checked, FalseLine, Replayed, Served, text_of, status_of, number_of}
+use Rattle.command_files.specs.ldif_load.load.DataFile.{OfLine}
+use Rattle.command_files.specs.ldif_records.declared.types.LineCause.TheVariants.{Syntax}
+use Rattle.command_files.specs.ldif_records.lines.Places.{records_from}
+use Rattle.data_advice.specs.Advice.{advice_text}
+use Rattle.fault_places.specs.Refusals.{refusal_text}
+use Rattle.acl_program.specs.Answering.{why_text}
+use Rattle.acl_program.specs.Outcomes.{BadChangesLine, BadLine, Checked, Explained, FalseLine, Replayed, Served, text_of, status_of, number_of}
 use Rattle.command_files.specs.wire_io.declared.answers.NextFault.TheVariants.{Failed}
 use Rattle.acl_program.specs.serve.Storing.{ServeAsked, OpenStore, CutStore, serve_asked}
 use Rattle.acl_program.specs.serve.Serving.{NotOpened, NotStored, LoopEnded, changes_read}
@@ -50,6 +56,19 @@ bad_certificate = refl
 bad_changes : text_of (BadChangesLine 2 Digest) ≡ codes "bad changes line 2: digest\n"
 unfolding text_of digits
 bad_changes = refl
+
+-- a file without a record, of which is asked why, and what is noted of no entries
+explained : text_of (Explained 1 (OfLine Syntax) []) ≡ codes "bad data line 1: syntax\nwhy: no record, which begins with \"dn: name\"\n"
+unfolding text_of digits refusal_text records_from
+explained = refl
+
+explained_status : number_of (status_of (Explained 1 (OfLine Syntax) [])) ≡ 3
+unfolding status_of
+explained_status = refl
+
+noted : why_text [] ≡ codes "ok 0 0\nnote: no entry is an access control specific point (administrativeRole): nobody may do anything\n"
+unfolding why_text advice_text digits
+noted = refl
 
 -- a tree without entries, and one to which three changes were applied before a torn end of 17 octets
 checked : text_of (Checked (unchanged [])) ≡ codes "ok 0 0\n"

@@ -1,13 +1,15 @@
--- What is answered of a data file, as text: one access control decision (X.501 18.8) explained or certified, a requester's
+-- What is answered of a data file, as text: what may surprise in it, one access control decision (X.501 18.8) explained or certified, a requester's
 -- rights on an entry, whether a certificate is that of the tree, and the replies to requests, or the script that sends them.
-use Rattle.std.specs.Prelude.{◌≡◌, ◌⊎◌, ◌≤◌, ℕ, Bool, true, false, List, length, codes, Some, Ok, Err}
-use Rattle.command_words.specs.command.Command.{CommandView, Explain, Prove, Rights, Verify, Ask, Help, Version, IsCommand}
+use Rattle.std.specs.Prelude.{◌≡◌, ◌⊎◌, ◌≤◌, ◌++◌, ℕ, Bool, true, false, List, length, codes, decimal, Some, Ok, Err}
+use Rattle.command_words.specs.command.Command.{CommandView, Why, Explain, Prove, Rights, Verify, Ask, Help, Version, IsCommand}
 use Rattle.command_files.specs.loading.Accepting.{IsGoodData, IsGoodRequests, IsTooLong, most_second}
 use Rattle.command_files.specs.client_core.declared.types.Asked.{Asked}
 use Rattle.command_files.specs.client_core.ReplyTexts.{replies_text}
 use Rattle.command_files.specs.client_core.Scripts.{ask_events, ask_script}
 use Rattle.command_files.specs.dir_tree.Entry.{EntryInformation}
+use Rattle.command_files.specs.dir_tree.Points.{access_subentries}
 use Rattle.command_files.specs.dn_names.name.Names.{RdnSequence}
+use Rattle.data_advice.specs.Advice.{advice_text}
 use Rattle.certify.specs.Certificate.{text_proved}
 use Rattle.certify.specs.RightsTable.{rights_at}
 use Rattle.certify.specs.Verifying.{verified}
@@ -21,6 +23,11 @@ use Rattle.acl_program.specs.declared.decisions.Account.{Account}
 use Rattle.acl_program.specs.declared.decisions.Account.TheVariants.{Explanation, Certificate}
 use Rattle.acl_program.specs.Lines.{sent_over}
 use Rattle.acl_program.specs.Helping.{help_text, version_text}
+
+-- the text of a good data file: how many entries and access control subentries it has, and what may surprise in it
+unfoldable pub why_text : List EntryInformation → List ℕ
+why_text entries =
+    codes "ok " ++ (decimal (length entries) ++ (codes " " ++ (decimal (access_subentries entries) ++ (codes "\n" ++ advice_text entries))))
 
 -- the text of a decision: filter by filter, or its certificate
 abbrev pub account_text : Account → List EntryInformation → Question → List ℕ
@@ -49,6 +56,12 @@ IsBadCertificate entries line content = ((length content ≤ most_second) × (ve
 -- it is in that form and not too long, and this is its first line that isn't that of the certificate over these entries
 unfoldable pub IsFalseCertificate : List EntryInformation → ℕ → List ℕ → Type 0
 IsFalseCertificate entries line content = (length content ≤ most_second) × (verified entries content ≡ Err (False line))
+
+-- the data file is accepted, and this is told of it
+pub record TellsWhy (data_file : List ℕ) (holds : List ℕ → (List ℕ → Type 0) → Type 0) (text : List ℕ) : Type 0 where
+  pub entries : List EntryInformation
+  pub good : holds data_file (IsGoodData entries)
+  pub is : text ≡ why_text entries
 
 -- the words are a question, whose decision over the entries of an accepted data file is told by this text
 pub record TellsDecision (account : Account) (data_file who target item permission : List ℕ) (holds : List ℕ → (List ℕ → Type 0) → Type 0) (text : List ℕ) : Type 0 where
@@ -86,6 +99,7 @@ pub record TellsReplies (data_file requests : List ℕ) (script : Bool) (holds :
 
 -- what a command tells of its files, of which what is known says that they are accepted: one case a command
 abbrev pub Tells : CommandView → (List ℕ → (List ℕ → Type 0) → Type 0) → List ℕ → Type 0
+Tells (Why data_file) holds text = TellsWhy data_file holds text
 Tells (Explain data_file who target item permission) holds text = TellsDecision Explanation data_file who target item permission holds text
 Tells (Prove data_file who target item permission) holds text = TellsDecision Certificate data_file who target item permission holds text
 Tells (Rights data_file who target) holds text = TellsRights data_file who target holds text

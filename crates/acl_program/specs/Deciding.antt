@@ -3,6 +3,7 @@ use Rattle.std.specs.Prelude.{◌≡◌, ℕ, Bool, List, Option, Some, None, Re
 use Rattle.command_words.specs.command.Command.{CommandView, Explain, Prove, Rights}
 use Rattle.command_files.specs.declared.loading.SecondFile.TheVariants as second
 use Rattle.command_files.specs.dir_tree.Entry.{EntryInformation}
+use Rattle.command_files.specs.ldif_load.load.DataFile.{loads}
 use Rattle.command_files.specs.plain_values.Answers.{Answers}
 use Rattle.certify.specs.Form.{cause_of}
 use Rattle.certify.specs.Verifying.{verified}
@@ -13,8 +14,8 @@ use Rattle.command_files.specs.Outside.{Written}
 use Rattle.acl_program.specs.declared.decisions.Account.{Account}
 use Rattle.acl_program.specs.declared.decisions.Account.TheVariants.{Explanation, Certificate}
 use Rattle.acl_program.specs.declared.rights_table.Party.{Party}
-use Rattle.acl_program.specs.Answering.{valid_text}
-use Rattle.acl_program.specs.Outcomes.{Outcome, BadLine, FalseLine, Answered, OutOfMemory}
+use Rattle.acl_program.specs.Answering.{valid_text, why_text}
+use Rattle.acl_program.specs.Outcomes.{Outcome, BadLine, FalseLine, Answered, Explained, OutOfMemory}
 use Rattle.acl_program.specs.declared.status.Status.{Status}
 use Rattle.acl_program.specs.program.Causes.{IsPerformed}
 use Rattle.acl_program.specs.program.Playing.{Ends}
@@ -45,3 +46,14 @@ pub record EndsVerified (entries : List EntryInformation) (text : List ℕ) (bef
   pub found : Result Bool CertFault
   pub is : Answers (λ granted. granted) cause_of found (verified entries text)
   pub ends : Ends (outcome_verified found) before status after
+
+-- what is told of the content of a data file
+unfoldable pub IsWhy : List ℕ → Outcome → Type 0
+IsWhy content (Answered text) = (entries : List EntryInformation) × (loads content ≡ Ok entries) × (text ≡ why_text entries)
+IsWhy content (Explained line cause own) = (own ≡ content) × (loads content ≡ Err (record { line = line; cause = cause }))
+IsWhy content OutOfMemory = Unit {0}
+IsWhy content outcome = ⊥
+
+-- and the text of that was put
+unfoldable pub EndsWhy : List ℕ → Written → Status → Written → Type 0
+EndsWhy content before status after = (outcome : Outcome) × IsWhy content outcome × Ends outcome before status after

@@ -13,6 +13,7 @@ use Rattle.command_files.specs.loading.Changing.{Left}
 use Rattle.command_files.specs.ldif_records.writing.WrittenFile.{written_file}
 use Rattle.command_files.specs.ldif_load.load.DataFile.{FileCause}
 use Rattle.command_files.specs.Troubles.{no_file_text, bad_data_text, bad_changes_text, bad_line_text}
+use Rattle.fault_places.specs.Refusals.{refusal_text}
 use Rattle.acl_program.specs.declared.status.Status.{Status}
 use Rattle.acl_program.specs.declared.status.Status.TheVariants.{Done, Usage, BadData, ShelfFault, SinkFault, LinkFault, TurnsSpent, NoMemory, BadScript, NotProved, StoreFault}
 use Rattle.acl_program.specs.Lines.{replay_text, entries_after}
@@ -23,7 +24,8 @@ use Rattle.acl_program.specs.serve.Serving.{ServeEnd, applied_text, serve_text, 
 -- changes isn't accepted, and why; the first bad line of a script, of requests or of a certificate; the first line of a
 -- certificate that isn't that of the loaded tree; a data file, or what changes leave of it, was checked, or put again; a
 -- script was replayed for so many turns, and the tree put after it if that was asked for; a data file was served over the
--- link; what was asked of a data file was answered by this text; a sample was made and served; memory ran out before
+-- link; what was asked of a data file was answered by this text; a data file of this content has this first bad line, and why
+-- was asked; a sample was made and served; memory ran out before
 -- anything was printed
 pub data Outcome : Type 0 where
   NoCommand : Outcome
@@ -37,6 +39,7 @@ pub data Outcome : Type 0 where
   Replayed : (events : List ScriptEvent) (turns : ℕ) (dump : Bool) (entries : List EntryInformation) → Outcome
   Served : (asked : ServeAsked) (end : ServeEnd) → Outcome
   Answered : (text : List ℕ) → Outcome
+  Explained : (line : ℕ) (cause : FileCause) (content : List ℕ) → Outcome
   Sampled : (text : List ℕ) → Outcome
   OutOfMemory : Outcome
 
@@ -59,6 +62,7 @@ text_of (Dumped left) = written_file left.entries
 text_of (Replayed events turns dump entries) = replay_text entries events turns ++ dump_text dump (entries_after entries events turns)
 text_of (Served asked end) = serve_text asked end
 text_of (Answered text) = text
+text_of (Explained line cause content) = bad_data_text line cause ++ refusal_text content
 text_of (Sampled text) = text
 text_of OutOfMemory = []
 
@@ -75,6 +79,7 @@ status_of (Dumped left) = Done
 status_of (Replayed events turns dump entries) = if nat_lt (length (pieces buffer_length events)) turns then Done else TurnsSpent
 status_of (Served asked end) = serve_status end
 status_of (Answered text) = Done
+status_of (Explained line cause content) = BadData
 status_of (Sampled text) = Done
 status_of OutOfMemory = NoMemory
 

@@ -1,6 +1,6 @@
 -- The sample: its data file is loaded, its one connection is served, and a summary is put.
 use Rattle.std.specs.Prelude.{◌≡◌, ◌≤◌, ℕ, List, ◌++◌, length, codes, decimal, Ok, Err}
-use Rattle.command_words.specs.command.Command.{CommandView, Serve, Replay, Check, Dump, Explain, Sample, Ask, Prove, Verify, Rights, Help, Version, IsCommand}
+use Rattle.command_words.specs.command.Command.{CommandView, Serve, Replay, Check, Why, Dump, Explain, Sample, Ask, Prove, Verify, Rights, Help, Version, IsCommand}
 use Rattle.command_files.specs.dir_tree.Entry.{EntryInformation}
 use Rattle.command_files.specs.ldif_load.load.DataFile.{FileCause, loads}
 use Rattle.sample_input.specs.SampleFile.{sample_file}
@@ -41,6 +41,7 @@ abbrev pub IsFew : CommandView → Type 0
 IsFew (Serve serving) = Unit {0}
 IsFew (Replay data_file script turns dump) = Unit {0}
 IsFew (Check data_file changes) = Unit {0}
+IsFew (Why data_file) = Unit {0}
 IsFew (Dump data_file changes) = Unit {0}
 IsFew (Explain data_file who target item permission) = Unit {0}
 IsFew (Sample count) = count ≤ 20000

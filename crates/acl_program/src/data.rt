@@ -75,7 +75,7 @@ pub(crate) fn applied_text(alloc: Global, applied: Option<Applied>) -> Result<St
 }
 
 // How many access control subentries the tree has.
-fn count_subentries(tree: &Tree) -> usize
+pub(crate) fn count_subentries(tree: &Tree) -> usize
     ensures exact { result ≡ access_subentries (entries_of tree.now) }
 {
     tree.access_subentries().len()

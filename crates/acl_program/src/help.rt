@@ -10,7 +10,7 @@ use crate::status::Status;
 use command_files::wire_io::{Sink, write_all};
 
 const HELP: &[u8] =
-    b"usage: aclserver COMMAND\n\n  serve DATA ADDRESS [--sessions N] [--turns N] [--queues MIB] [--idle SECONDS] [--limit N] [--changes FILE]\n  replay DATA SCRIPT [--dump] [--turns N]\n  check DATA [--changes FILE]\n  dump DATA [--changes FILE]\n  explain DATA WHO TARGET ITEM PERMISSION\n  prove DATA WHO TARGET ITEM PERMISSION\n  verify DATA CERTIFICATE\n  rights DATA WHO TARGET\n  ask DATA REQUESTS [--script]\n  sample N\n  --help\n  --version\n";
+    b"usage: aclserver COMMAND\n\n  serve DATA ADDRESS [--sessions N] [--turns N] [--queues MIB] [--idle SECONDS] [--limit N] [--changes FILE]\n  replay DATA SCRIPT [--dump] [--turns N]\n  check DATA [--changes FILE | --why]\n  dump DATA [--changes FILE]\n  explain DATA WHO TARGET ITEM PERMISSION\n  prove DATA WHO TARGET ITEM PERMISSION\n  verify DATA CERTIFICATE\n  rights DATA WHO TARGET\n  ask DATA REQUESTS [--script]\n  sample N\n  --help\n  --version\n";
 
 const VERSION: &[u8] = b"aclserver 1.0\n";
 

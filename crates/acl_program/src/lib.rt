@@ -17,6 +17,7 @@ mod status;
 mod storing;
 mod troubles;
 mod verifying;
+mod why;
 
 pub use program::run;
 pub use status::Status;

@@ -22,6 +22,7 @@ use crate::serve::serve;
 use crate::status::Status;
 use crate::troubles::print_usage;
 use crate::verifying::tell_validity;
+use crate::why::tell_why;
 use command_files::wire_io::{Link, Shelf, Sink};
 use command_words::{Command, read_words};
 use std::alloc::Global;
@@ -32,6 +33,8 @@ use std::alloc::Global;
 /// subentries. With `--changes` the changes of the file, change records (RFC 2849) whose head has the SHA-256 of the data
 /// file, are applied first, in their order and without asking for permission; E and S count what is left, and a line
 /// `changes N torn M` follows: N changes were applied, and M octets stand behind the last whole record.
+/// `check DATA --why` puts more behind its first line: of a data file that isn't accepted, where in its first bad record the
+/// fault is; and of one that is, what may surprise in it. It takes no file of changes.
 /// `dump DATA [--changes FILE]` puts the tree that is left as a data file. `replay DATA SCRIPT [--dump] [--turns N]` loads
 /// the data file, reads the script file, serves its events as those of a link's connections, at most N of them, and puts
 /// one line for each connection: its number, what was sent to it, and whether it was hung up; with `--dump` the tree
@@ -166,6 +169,7 @@ fn perform<H: Shelf, K: Sink, L: Link>(
             out,
         ),
         Command::Check { data, changes } => check(alloc, data, changes, shelf, out),
+        Command::Why { data } => tell_why(alloc, data, shelf, out),
         Command::Dump { data, changes } => dump(alloc, data, changes, shelf, out),
         Command::Explain {
             data,

@@ -4,7 +4,7 @@ ghost use Rattle.std.specs.Prelude.{◌≡◌, ◌≤◌, Some, None, length, op
 ghost use Rattle.change_replay.specs.aci_item.Rules.{IsGoodTree};
 ghost use Rattle.dir_tree.specs.tree.Numbered.{entries_of};
 ghost use Rattle.command_files.specs.loading.Accepting.{most_data, most_second};
-ghost use Rattle.command_files.specs.loading.Loading.{LoadsCertificate, LoadsChanges, LoadsFile, LoadsRequests, LoadsScript, LoadsData, LoadsTree, ReadsChanges, ReadsRequests, ReadsScript, ReadsData, ReadsFile, changes_trouble_of_file, data_trouble_of_file, trouble_of_asks, trouble_of_changes, trouble_of_data, trouble_of_file, trouble_of_script};
+ghost use Rattle.command_files.specs.loading.Loading.{LoadsCertificate, LoadsChanges, LoadsContent, LoadsFile, LoadsRequests, LoadsScript, LoadsData, LoadsTree, ReadsChanges, ReadsRequests, ReadsScript, ReadsData, ReadsFile, changes_trouble_of_file, data_trouble_of_file, trouble_of_asks, trouble_of_changes, trouble_of_data, trouble_of_file, trouble_of_script};
 
 use crate::changing::{ChangesCause, ChangesFault, Loaded, change_tree};
 use client_core::{AskFault, Asked, read_asks};
@@ -167,6 +167,21 @@ fn read_file(alloc: Global, content: Vec<u8>) -> Result<DataFile, Trouble>
     match read_data(alloc, content.as_slice()) {
         Ok(tree) => Ok(DataFile { content, tree }),
         Err(trouble) => Err(trouble),
+    }
+}
+
+/// The octets of the data file, at most as many as it may have. Whether they are accepted is not looked at.
+pub fn load_content<H: Shelf>(
+    alloc: Global,
+    shelf: &mut H,
+    name: &str,
+) -> Result<Vec<u8>, Trouble>
+    ensures exact { LoadsContent (H.files shelf.old) name.now (H.faults shelf.old) (H.faults shelf.new) result }
+    ensures kept { H.files shelf.new ≡ H.files shelf.old }
+{
+    match read_all(alloc, shelf, name, MOST_DATA) {
+        Ok(content) => Ok(content),
+        Err(fault) => Err(unread_data(fault)),
     }
 }
 

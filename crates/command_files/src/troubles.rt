@@ -39,13 +39,14 @@ fn put_bad_data<K: Sink>(
     ensures tells { PutsAll (K.put out.old) (bad_data_text line (cause_of cause)) result (K.put out.new) }
     ensures cause { PutCause (K.faults out.old) (K.faults out.new) result }
 {
-    let Ok(text) = bad_data(alloc, line, cause) else {
+    let Ok(text) = bad_data_text(alloc, line, cause) else {
         return Err(PutFault::NoMemory);
     };
     write_all(out, text.as_bytes())
 }
 
-fn bad_data(alloc: Global, line: u64, cause: DataCause) -> Result<String, AllocError>
+/// The line that names a data file's bad line, and its cause.
+pub fn bad_data_text(alloc: Global, line: u64, cause: DataCause) -> Result<String, AllocError>
     ensures { IfOk result (λ text. string_bytes text ≡ bad_data_text line (cause_of cause)) }
 {
     let cause = cause_text(alloc, cause)?;

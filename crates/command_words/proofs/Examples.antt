@@ -10,7 +10,7 @@ use Rattle.command_words.specs.declared.table.CommandName.TheVariants as command
 use Rattle.command_words.specs.Table.{row_of}
 use Rattle.command_words.specs.Number.{number_of, number_within}
 use Rattle.command_words.specs.Address.{is_address, address_of}
-use Rattle.command_words.specs.command.Command.{CommandView, Serve, Replay, Check, Dump, Explain, Sample, Ask, Prove, Verify, Rights, Help, Version}
+use Rattle.command_words.specs.command.Command.{CommandView, Serve, Replay, Check, Why, Dump, Explain, Sample, Ask, Prove, Verify, Rights, Help, Version}
 use Rattle.command_words.specs.parser.Parser.{app_for, id_of}
 use Rattle.command_words.specs.parser.Asked.{command_said, said_by}
 
@@ -132,6 +132,15 @@ checked_with_dash = refl
 check_without_name : read commands.Check (codes "d" ∷ codes "--changes" ∷ codes "--changes" ∷ []) ≡ None
 unfolding clap_on_literals command_said said_by
 check_without_name = refl
+
+-- `check d --why`, and `check d --why --changes c`, where no words ask for both
+checked_why : read commands.Check (codes "d" ∷ codes "--why" ∷ []) ≡ Some (Why (codes "d"))
+unfolding clap_on_literals command_said said_by
+checked_why = refl
+
+checked_why_changed : read commands.Check (codes "d" ∷ codes "--why" ∷ codes "--changes" ∷ codes "c" ∷ []) ≡ None
+unfolding clap_on_literals command_said said_by
+checked_why_changed = refl
 
 -- `check d --changes c --changes c`
 check_changed_twice : read commands.Check (codes "d" ∷ codes "--changes" ∷ codes "c" ∷ codes "--changes" ∷ codes "c" ∷ []) ≡ None

@@ -16,7 +16,7 @@ pub record Row : Type 0 where
 abbrev pub row_of : CommandName → Row
 row_of commands.Serve = record { name = codes "serve"; operands = 2; options = options.Sessions ∷ options.Turns ∷ options.Queues ∷ options.Idle ∷ options.Limit ∷ options.Changes ∷ [] }
 row_of commands.Replay = record { name = codes "replay"; operands = 2; options = options.Dump ∷ options.Turns ∷ [] }
-row_of commands.Check = record { name = codes "check"; operands = 1; options = options.Changes ∷ [] }
+row_of commands.Check = record { name = codes "check"; operands = 1; options = options.Changes ∷ options.Why ∷ [] }
 row_of commands.Dump = record { name = codes "dump"; operands = 1; options = options.Changes ∷ [] }
 row_of commands.Explain = record { name = codes "explain"; operands = 5; options = [] }
 row_of commands.Sample = record { name = codes "sample"; operands = 1; options = [] }
@@ -41,6 +41,7 @@ option_word options.Limit = codes "limit"
 option_word options.Dump = codes "dump"
 option_word options.Script = codes "script"
 option_word options.Changes = codes "changes"
+option_word options.Why = codes "why"
 
 -- whether the option has an argument
 abbrev pub takes_argument : OptionName → Bool
@@ -52,6 +53,7 @@ takes_argument options.Limit = true
 takes_argument options.Dump = false
 takes_argument options.Script = false
 takes_argument options.Changes = true
+takes_argument options.Why = false
 
 -- the same option: of one word
 abbrev pub is_same_option : OptionName → OptionName → Bool

@@ -87,6 +87,10 @@ pub enum Command<'a> {
         data: &'a str,
         changes: Option<&'a str>,
     },
+    /// `check DATA --why`: the name of the file. No words ask for this with a file of changes.
+    Why {
+        data: &'a str,
+    },
     /// `dump DATA [--changes FILE]`: the name of the file, and that of the file of its changes where there is one.
     Dump {
         data: &'a str,
@@ -144,7 +148,8 @@ pub enum Command<'a> {
 /// at most once, as `--name text`, `--name=text` or, for one without an argument, `--name`; words after
 /// `--` are operands, and so is `-` alone (POSIX.1, Utility Syntax Guidelines; GNU's long options).
 /// A number stands in one to twenty decimal digits, and is in the range of its option; an address is `127.0.0.1:` and a port
-/// in one to five decimal digits, from 1 to 65,535; the name of a file is any text. An `AllocError` comes where memory is wanted, and says
+/// in one to five decimal digits, from 1 to 65,535; the name of a file is any text. `--why` and `--changes` stand together in
+/// no command. An `AllocError` comes where memory is wanted, and says
 /// nothing of the words.
 pub fn read_words<'a>(alloc: Global, words: &'a [String]) -> Result<Option<Command<'a>>, AllocError>
     ensures found { IfOk result (λ read. IfSome read (λ command.
@@ -281,7 +286,14 @@ fn read_check<'a>(matches: &ArgMatches<'a>) -> Option<Command<'a>>
 {
     let data = kept_text(matches, Sought::Operands, 0)?;
     let changes = kept_text(matches, Sought::Arguments(OptionName::Changes), 0);
-    Some(Command::Check { data, changes })
+    if is_set(matches, OptionName::Why) {
+        match changes {
+            Some(_) => None,
+            None => Some(Command::Why { data }),
+        }
+    } else {
+        Some(Command::Check { data, changes })
+    }
 }
 
 #[tactic(auto, unfolding(crate::specs::parser::Asked::command_said))]

@@ -31,6 +31,7 @@ pub enum OptionName {
     Dump,
     Script,
     Changes,
+    Why,
 }
 
 /// What a line is read for: its operands, or the arguments of an option.
@@ -121,7 +122,7 @@ impl CommandName {
                 OptionName::Changes,
             ],
             CommandName::Replay => &[OptionName::Dump, OptionName::Turns],
-            CommandName::Check => &[OptionName::Changes],
+            CommandName::Check => &[OptionName::Changes, OptionName::Why],
             CommandName::Dump => &[OptionName::Changes],
             CommandName::Explain => &[],
             CommandName::Sample => &[],
@@ -149,6 +150,7 @@ impl OptionName {
             OptionName::Dump => "dump",
             OptionName::Script => "script",
             OptionName::Changes => "changes",
+            OptionName::Why => "why",
         }
     }
 
@@ -164,6 +166,7 @@ impl OptionName {
             OptionName::Dump => false,
             OptionName::Script => false,
             OptionName::Changes => true,
+            OptionName::Why => false,
         }
     }
 }

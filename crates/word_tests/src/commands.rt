@@ -68,6 +68,7 @@ fn answer(alloc: Global, words: &[String]) -> Result<String, AllocError> {
             if dump { " dump" } else { "" }
         ),
         Some(Command::Check { data, changes }) => changed_text(alloc, "check", data, changes),
+        Some(Command::Why { data }) => format!(in alloc; "why [{data}]"),
         Some(Command::Dump { data, changes }) => changed_text(alloc, "dump", data, changes),
         Some(
             Command::Explain {
@@ -116,7 +117,7 @@ fn asked(alloc: Global, line: &str) -> Result<String, AllocError> {
     answer(alloc, words.as_slice())
 }
 
-static READ: [(&str, &str); 102] = [
+static READ: [(&str, &str); 105] = [
     // a replay
     ("replay d s", "[d] [s] 1000000000000"),
     ("replay d s --turns 5", "[d] [s] 5"),
@@ -184,6 +185,9 @@ static READ: [(&str, &str); 102] = [
     ("check d --changes=", "check [d] []"),
     ("check d --changes -", "check [d] [-]"),
     ("check d --changes=-c", "check [d] [-c]"),
+    ("check d --why", "why [d]"),
+    ("check --why d", "why [d]"),
+    ("check --why -- -d", "why [-d]"),
     ("dump d --changes c", "dump [d] [c]"),
     ("dump --changes=c -- d", "dump [d] [c]"),
     ("dump d", "dump [d]"),
@@ -343,7 +347,7 @@ static REFUSED: [&str; 227] = [
     "serve d --changes 127.0.0.1:389",
     "serve d 127.0.0.1:389 --changes --idle=60",
     "serve d 127.0.0.1:389 --changes c --changes=c",
-    "check d --why",
+    "check d --why --changes c",
     "check d --why --why",
     "check d --why=yes",
     "dump d --why",

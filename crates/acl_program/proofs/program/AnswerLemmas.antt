@@ -1,13 +1,13 @@
 -- Lemmas on answers: a command has one over files that are told and accepted.
 use Rattle.std.proofs.Common.{◌≡◌, ℕ, Bool, List, [], Option, Some, refl, sym, ap, ◌∙◌, subst}
 use Rattle.command_files.specs.wire_io.Files.{Files}
-use Rattle.command_words.specs.command.Command.{CommandView, Explain, Ask, Prove, Verify, Rights, Help, Version}
+use Rattle.command_words.specs.command.Command.{CommandView, Why, Explain, Ask, Prove, Verify, Rights, Help, Version}
 use Rattle.command_files.specs.declared.loading.SecondFile.TheVariants as second
 use Rattle.command_files.specs.dir_tree.Entry.{EntryInformation}
 use Rattle.certify.specs.RightsTable.{rights_at}
 use Rattle.command_files.proofs.Theorems.{both_in, one_entries, one_asks, IsTold-weaker}
 use Rattle.acl_program.specs.declared.decisions.Account.{Account}
-use Rattle.acl_program.specs.Answering.{IsGoodCertificate, TellsDecision, TellsRights, TellsValidity, TellsReplies, Tells, account_text, asked_text, valid_text}
+use Rattle.acl_program.specs.Answering.{IsGoodCertificate, TellsWhy, TellsDecision, TellsRights, TellsValidity, TellsReplies, Tells, account_text, asked_text, valid_text, why_text}
 use Rattle.command_files.specs.loading.Accepting.{IsGoodData, IsGoodRequests, HoldsIn, IsTold}
 use Rattle.acl_program.proofs.program.AcceptLemmas.{one_granted, IsGoodSecond}
 use Rattle.acl_program.proofs.program.ReadyLemmas.{IsReady, ReadySample, ready_alone, ready_both, ReadyChanges, ReadyData, ReadySecond}
@@ -18,6 +18,9 @@ module _ (files : Option Files) where
   data_once name entries found known holds =
       let both = both_in files name (IsGoodData entries) (IsGoodData found) known holds in
       one_entries found entries both.0 both.2 both.1
+
+  why_once : (name text other : List ℕ) → TellsWhy name (IsTold files) text → TellsWhy name (HoldsIn files) other → other ≡ text
+  why_once name text other due found = found.is ∙ ap (λ all. why_text all) (data_once name due.entries found.entries due.good found.good) ∙ sym due.is
 
   decision_once : (account : Account) (name who target item permission text other : List ℕ)
       → TellsDecision account name who target item permission (IsTold files) text → TellsDecision account name who target item permission (HoldsIn files) other → other ≡ text
@@ -50,6 +53,7 @@ module _ (files : Option Files) where
       found.is ∙ ap (λ all. asked_text script all found.asks) entries ∙ ap (λ asks. asked_text script due.entries asks) (one_asks found.asks due.asks both.0 both.2 both.1) ∙ sym due.is
 
   pub answer_once : (command : CommandView) (text other : List ℕ) → Tells command (IsTold files) text → Tells command (HoldsIn files) other → other ≡ text
+  answer_once (Why name) text other due found = why_once name text other due found
   answer_once (Explain name who target item permission) text other due found = decision_once _ name who target item permission text other due found
   answer_once (Prove name who target item permission) text other due found = decision_once _ name who target item permission text other due found
   answer_once (Rights name who target) text other due found = rights_once name who target text other due found
@@ -62,6 +66,8 @@ module _ (files : Option Files) where
   -- a command whose answer is told is ready
   pub told_ready : (command : CommandView) (text : List ℕ) → Tells command (IsTold files) text → (entries : List EntryInformation) × IsReady files command entries
   unfolding ReadySample IsGoodSecond ReadyChanges ReadyData ReadySecond
+  told_ready (Why name) text due =
+      (due.entries, ready_alone files (Why name) name due.entries refl refl refl tt tt due.good)
   told_ready (Explain name who target item permission) text due =
       (due.entries, ready_alone files (Explain name who target item permission) name due.entries refl refl refl (due.question, due.asks) tt due.good)
   told_ready (Prove name who target item permission) text due =

@@ -12,7 +12,7 @@ use Rattle.command_files.specs.dir_tree.Entry.{EntryInformation}
 use Rattle.command_files.specs.ldif_load.load.DataFile.{loads}
 use Rattle.sample_input.specs.SampleFile.{sample_file}
 use Rattle.command_files.proofs.Theorems.{both_in, one_events, IsTold-weaker, one_left, told_from}
-use Rattle.acl_program.specs.Outcomes.{Outcome, NoCommand, NoFile, BadDataLine, BadChangesLine, BadLine, FalseLine, Checked, Dumped, Replayed, Served, Answered, Sampled, OutOfMemory, status_of}
+use Rattle.acl_program.specs.Outcomes.{Outcome, NoCommand, NoFile, BadDataLine, BadChangesLine, BadLine, FalseLine, Checked, Dumped, Replayed, Served, Answered, Explained, Sampled, OutOfMemory, status_of}
 use Rattle.acl_program.specs.declared.status.Status.TheVariants.{Done, NoMemory}
 use Rattle.acl_program.specs.program.Outside.{Linked}
 use Rattle.acl_program.specs.Answering.{Tells, AsksAnswer}
@@ -214,6 +214,7 @@ due_comes words files before after old new outcome (Served asks end) is still co
     (serve_due words files before after asks old new is.1 is.2 still is.3 is.4 outcome comes links))
 due_comes words files before after old new outcome (Answered text) is still comes links =
     as_status outcome (Answered text) (answer_due words files before after text is still outcome comes)
+due_comes words files before after old new outcome (Explained line cause content) is still comes links = absurd is
 due_comes words files before after old new outcome (Sampled text) is still comes links =
     as_status outcome (Sampled text) (sample_due words files before after text is still outcome comes)
 due_comes words files before after old new outcome OutOfMemory is still comes links = absurd is

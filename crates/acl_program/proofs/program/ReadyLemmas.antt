@@ -2,7 +2,7 @@
 use Rattle.std.proofs.Common.{◌≡◌, ℕ, List, Option, Some, None, Ok, Err, refl, sym, ap, ◌∙◌, subst, inl, inr, ◌⊎◌}
 use Rattle.command_files.specs.plain_values.Counts.{Rose}
 use Rattle.command_files.specs.wire_io.Files.{Files}
-use Rattle.command_words.specs.command.Command.{CommandView, Serve, Replay, Check, Dump, Explain, Sample, Ask, Prove, Verify, Rights, Help, Version, IsCommand}
+use Rattle.command_words.specs.command.Command.{CommandView, Serve, Replay, Check, Why, Dump, Explain, Sample, Ask, Prove, Verify, Rights, Help, Version, IsCommand}
 use Rattle.command_words.proofs.Theorems.{IsCommand-unique}
 use Rattle.command_files.specs.declared.changing.ChangesCause.{ChangesCause}
 use Rattle.command_files.specs.loading.Changing.{Left}
@@ -11,8 +11,8 @@ use Rattle.command_files.specs.declared.loading.SecondFile.TheVariants as second
 use Rattle.command_files.specs.dir_tree.Entry.{EntryInformation}
 use Rattle.command_files.specs.ldif_load.load.DataFile.{FileCause, loads}
 use Rattle.sample_input.specs.SampleFile.{sample_file}
-use Rattle.command_files.proofs.Theorems.{known_read, both_in, both_fail, good_not_refused, one_entries, IsTold-weaker, beside_read, beside_not_bad}
-use Rattle.acl_program.specs.Outcomes.{Outcome, NoCommand, NoFile, BadDataLine, BadChangesLine, BadLine, FalseLine, Checked, Dumped, Replayed, Served, Answered, Sampled, OutOfMemory}
+use Rattle.command_files.proofs.Theorems.{known_read, both_in, both_fail, HoldsIn-fails, HoldsIn-weaker, good_not_refused, one_entries, IsTold-weaker, beside_read, beside_not_bad}
+use Rattle.acl_program.specs.Outcomes.{Outcome, NoCommand, NoFile, BadDataLine, BadChangesLine, BadLine, FalseLine, Checked, Dumped, Replayed, Served, Answered, Explained, Sampled, OutOfMemory}
 use Rattle.acl_program.specs.Answering.{IsFalseCertificate, Tells}
 use Rattle.acl_program.specs.Sampling.{RefusesSample}
 use Rattle.command_files.specs.loading.Accepting.{HoldsBeside, IsBadBeside, IsGoodChanges, IsGoodData, IsBadData, IsLoaded, IsUnreadBeside, HoldsIn, FailsIn, IsTold}
@@ -63,6 +63,7 @@ abbrev pub kind_of : CommandView → Kind
 kind_of (Serve serving) = OfServe
 kind_of (Replay data_file script turns dump) = OfReplay
 kind_of (Check data_file changes) = OfCheck
+kind_of (Why data_file) = OfAnswer
 kind_of (Dump data_file changes) = OfDump
 kind_of (Explain data_file who target item permission) = OfAnswer
 kind_of (Sample count) = OfSample
@@ -83,8 +84,14 @@ IsDone OfAnswer (Answered text) = Unit {0}
 IsDone OfSample (Sampled text) = Unit {0}
 IsDone kind outcome = ⊥
 
+-- a file whose content is bad is refused
+pub content_fails : (files : Option Files) (name : List ℕ) (line : ℕ) (cause : FileCause) (content : List ℕ) → HoldsIn files name (λ own. own ≡ content) → IsBadData line cause content → FailsIn files name (IsBadData line cause)
+content_fails files name line cause content is bad =
+    HoldsIn-fails files name (IsBadData line cause) (HoldsIn-weaker files name (λ own. own ≡ content) (IsBadData line cause) (λ own same. subst (IsBadData line cause) (sym same) bad) is)
+
 -- a command that tells something answers
 pub tells_kind : (command : CommandView) (holds : List ℕ → (List ℕ → Type 0) → Type 0) (text : List ℕ) → Tells command holds text → kind_of command ≡ OfAnswer
+tells_kind (Why data_file) holds text tells = refl
 tells_kind (Explain data_file who target item permission) holds text tells = refl
 tells_kind (Prove data_file who target item permission) holds text tells = refl
 tells_kind (Rights data_file who target) holds text tells = refl
@@ -194,6 +201,9 @@ module _ (words : List (List ℕ)) (files : Option Files) (before after : ℕ) (
   comes_done (Answered text) comes =
       let kind : kind_of asked ≡ OfAnswer = ap (λ command. kind_of command) (sym (same_command comes.0.command comes.0.asked)) ∙ tells_kind comes.0.command (HoldsIn files) text comes.0.tells in
       inr (subst (λ kind. IsDone kind (Answered text)) (sym kind) tt)
+  comes_done (Explained line cause content) comes =
+      let own = comes.0 in
+      absurd (accepts_data line cause (Why own.data_file) own.data_file own.asked refl (content_fails files own.data_file line cause content own.is own.bad))
   comes_done (Sampled text) comes = inr (subst (λ command. IsDone (kind_of command) (Sampled text)) (same_command (Sample comes.0.count) comes.0.asked) tt)
   comes_done OutOfMemory comes = inl refl
 

@@ -4,7 +4,7 @@ use Rattle.std.proofs.lemmas.List.{length-map}
 use Rattle.command_words.specs.declared.table.CommandName.{CommandName}
 use Rattle.command_words.specs.declared.table.CommandName.TheVariants as commands
 use Rattle.command_words.specs.command.Line.{Line}
-use Rattle.command_words.specs.command.Command.{CommandView, Serve, Replay, Check, Dump, Explain, Sample, Ask, Prove, Verify, Rights, Help, Version, IsCommand, Says}
+use Rattle.command_words.specs.command.Command.{CommandView, Serve, Replay, Check, Why, Dump, Explain, Sample, Ask, Prove, Verify, Rights, Help, Version, IsCommand, Says}
 use Rattle.command_files.specs.dir_tree.Entry.{EntryInformation}
 use Rattle.command_files.specs.dir_tree.tree.Numbered.{Numbered, entries_of}
 use Rattle.command_files.specs.ldif_load.load.DataFile.{FileCause, loads}
@@ -21,6 +21,7 @@ says_few : (name : CommandName) (line : Line) (asked : CommandView) → Says nam
 says_few name line (Serve serving) says = tt
 says_few name line (Replay data_file script turns dump) says = tt
 says_few name line (Check data_file changes) says = tt
+says_few name line (Why data_file) says = tt
 says_few name line (Dump data_file changes) says = tt
 says_few name line (Explain data_file who target item permission) says = tt
 says_few name line (Ask data_file requests script) says = tt

@@ -1,10 +1,11 @@
 -- Lemmas on which outcome may come with the words and the shelf, by the status that it has.
-use Rattle.std.proofs.Common.{◌≡◌, ℕ, Bool, true, false, List, length, Option, ap, inl, inr, ◌⊎◌, if◌then◌else◌, nat_lt}
+use Rattle.std.proofs.Common.{◌≡◌, ℕ, Bool, true, false, List, length, Option, refl, ap, inl, inr, ◌⊎◌, if◌then◌else◌, nat_lt}
 use Rattle.command_files.specs.script_text.declared.event.ScriptEvent.{ScriptEvent}
 use Rattle.command_files.specs.plain_values.Counts.{Rose}
 use Rattle.command_files.specs.wire_io.Files.{Files}
 use Rattle.command_files.specs.wire_io.Pieces.{pieces}
 use Rattle.session_hub.specs.serve.Loops.{buffer_length}
+use Rattle.command_words.specs.command.Command.{Why}
 use Rattle.command_files.specs.dir_tree.Entry.{EntryInformation}
 use Rattle.command_files.specs.declared.changing.ChangesCause.{ChangesCause}
 use Rattle.command_files.specs.declared.loading.SecondFile.{SecondFile}
@@ -12,13 +13,14 @@ use Rattle.command_files.specs.ldif_load.load.DataFile.{FileCause}
 use Rattle.acl_program.specs.declared.status.Status.{Status}
 use Rattle.acl_program.specs.declared.status.Status.TheVariants.{Done, Usage, BadData, ShelfFault, SinkFault, LinkFault, TurnsSpent, NoMemory, BadScript, NotProved, StoreFault}
 use Rattle.acl_program.specs.program.Outside.{Linked, Outside}
-use Rattle.acl_program.specs.Outcomes.{Outcome, NoCommand, NoFile, BadDataLine, BadChangesLine, BadLine, FalseLine, Checked, Dumped, Replayed, Served, Answered, Sampled, OutOfMemory, status_of}
-use Rattle.acl_program.specs.program.Causes.{IsNoCommand, AsksServing, AsksServe, AsksStoring, MayOpenStore, LacksChanges, LacksData, LacksSecond, RefusesChanges, RefusesData, RefusesSecond, RefutesCertificate, Comes, Links}
+use Rattle.acl_program.specs.Outcomes.{Outcome, NoCommand, NoFile, BadDataLine, BadChangesLine, BadLine, FalseLine, Checked, Dumped, Replayed, Served, Answered, Explained, Sampled, OutOfMemory, status_of}
+use Rattle.acl_program.specs.program.Causes.{IsNoCommand, AsksData, AsksServing, AsksServe, ExplainsData, AsksStoring, MayOpenStore, LacksChanges, LacksData, LacksSecond, RefusesChanges, RefusesData, RefusesSecond, RefutesCertificate, Comes, Links}
 use Rattle.acl_program.specs.Sampling.{RefusesSample}
 use Rattle.acl_program.specs.program.Running.{Puts, IsCause, EndsAtFaults}
 use Rattle.acl_program.specs.program.Playing.{Ends}
 use Rattle.acl_program.specs.serve.Storing.{ServeAsked}
 use Rattle.acl_program.specs.serve.Serving.{ServeEnd}
+use Rattle.acl_program.proofs.program.ReadyLemmas.{content_fails}
 use Rattle.acl_program.proofs.serve.StoreLemmas.{opens_count}
 use Rattle.acl_program.proofs.serve.CountLemmas.{serve_not, fault_rose, store_rose, serve_count_stays}
 
@@ -52,8 +54,18 @@ usage_comes words files before after (Dumped left) is comes = absurd (cc)
 usage_comes words files before after (Replayed events turns dump entries) is comes = absurd (not_replayed Usage events turns dump entries is (λ e. cc) (λ e. cc))
 usage_comes words files before after (Served asked end) is comes = absurd (serve_not Usage end is (λ e. cc) (λ e. cc) (λ e. cc) (λ e. cc) (λ e. cc))
 usage_comes words files before after (Answered text) is comes = absurd (cc)
+usage_comes words files before after (Explained line cause content) is comes = absurd (cc)
 usage_comes words files before after (Sampled text) is comes = absurd (cc)
 usage_comes words files before after OutOfMemory is comes = absurd (cc)
+
+-- a data file whose refusal was explained is refused
+explained_refuses : (words : List (List ℕ)) (files : Option Files) (line : ℕ) (cause : FileCause) (content : List ℕ) → ExplainsData words files line cause content → RefusesData words files line cause
+unfolding AsksData
+explained_refuses words files line cause content own = record {
+  data_file = own.data_file;
+  asked = (Why own.data_file, own.asked, refl);
+  bad = content_fails files own.data_file line cause content own.is own.bad;
+}
 
 -- what came, by the status of the outcome
 data_cause : (words : List (List ℕ)) (files : Option Files) (before after : ℕ) (outcome : Outcome)
@@ -71,6 +83,7 @@ data_cause words files before after (Dumped left) is comes = absurd (cc)
 data_cause words files before after (Replayed events turns dump entries) is comes = absurd (not_replayed BadData events turns dump entries is (λ e. cc) (λ e. cc))
 data_cause words files before after (Served asked end) is comes = absurd (serve_not BadData end is (λ e. cc) (λ e. cc) (λ e. cc) (λ e. cc) (λ e. cc))
 data_cause words files before after (Answered text) is comes = absurd (cc)
+data_cause words files before after (Explained line cause content) is comes = inl (line, cause, inl (explained_refuses words files line cause content comes.0))
 data_cause words files before after (Sampled text) is comes = absurd (cc)
 data_cause words files before after OutOfMemory is comes = absurd (cc)
 
@@ -88,6 +101,7 @@ shelf_cause words files before after (Dumped left) is comes = absurd (cc)
 shelf_cause words files before after (Replayed events turns dump entries) is comes = absurd (not_replayed ShelfFault events turns dump entries is (λ e. cc) (λ e. cc))
 shelf_cause words files before after (Served asked end) is comes = absurd (serve_not ShelfFault end is (λ e. cc) (λ e. cc) (λ e. cc) (λ e. cc) (λ e. cc))
 shelf_cause words files before after (Answered text) is comes = absurd (cc)
+shelf_cause words files before after (Explained line cause content) is comes = absurd (cc)
 shelf_cause words files before after (Sampled text) is comes = absurd (cc)
 shelf_cause words files before after OutOfMemory is comes = absurd (cc)
 
@@ -105,6 +119,7 @@ script_cause words files before after (Dumped left) is comes = absurd (cc)
 script_cause words files before after (Replayed events turns dump entries) is comes = absurd (not_replayed BadScript events turns dump entries is (λ e. cc) (λ e. cc))
 script_cause words files before after (Served asked end) is comes = absurd (serve_not BadScript end is (λ e. cc) (λ e. cc) (λ e. cc) (λ e. cc) (λ e. cc))
 script_cause words files before after (Answered text) is comes = absurd (cc)
+script_cause words files before after (Explained line cause content) is comes = absurd (cc)
 script_cause words files before after (Sampled text) is comes = absurd (cc)
 script_cause words files before after OutOfMemory is comes = absurd (cc)
 
@@ -122,6 +137,7 @@ false_cause words files before after (Dumped left) is comes = absurd (cc)
 false_cause words files before after (Replayed events turns dump entries) is comes = absurd (not_replayed NotProved events turns dump entries is (λ e. cc) (λ e. cc))
 false_cause words files before after (Served asked end) is comes = absurd (serve_not NotProved end is (λ e. cc) (λ e. cc) (λ e. cc) (λ e. cc) (λ e. cc))
 false_cause words files before after (Answered text) is comes = absurd (cc)
+false_cause words files before after (Explained line cause content) is comes = absurd (cc)
 false_cause words files before after (Sampled text) is comes = absurd (cc)
 false_cause words files before after OutOfMemory is comes = absurd (cc)
 
@@ -145,6 +161,7 @@ link_cause words files before after old new (Dumped left) is comes links = absur
 link_cause words files before after old new (Replayed events turns dump entries) is comes links = absurd (not_replayed LinkFault events turns dump entries is (λ e. cc) (λ e. cc))
 link_cause words files before after old new (Served asked end) is comes links = (serving_asked words files asked end comes.0, fault_rose asked old new end links is)
 link_cause words files before after old new (Answered text) is comes links = absurd (cc)
+link_cause words files before after old new (Explained line cause content) is comes links = absurd (cc)
 link_cause words files before after old new (Sampled text) is comes links = absurd (cc)
 link_cause words files before after old new OutOfMemory is comes links = absurd (cc)
 
@@ -163,6 +180,7 @@ store_cause words files before after old new (Dumped left) is comes links = absu
 store_cause words files before after old new (Replayed events turns dump entries) is comes links = absurd (not_replayed StoreFault events turns dump entries is (λ e. cc) (λ e. cc))
 store_cause words files before after old new (Served asked end) is comes links = (let rose = store_rose asked old new end links is in ((asked.serving, comes.0.asked, rose.0), rose.1))
 store_cause words files before after old new (Answered text) is comes links = absurd (cc)
+store_cause words files before after old new (Explained line cause content) is comes links = absurd (cc)
 store_cause words files before after old new (Sampled text) is comes links = absurd (cc)
 store_cause words files before after old new OutOfMemory is comes links = absurd (cc)
 
@@ -191,6 +209,7 @@ link_stays words files before after old new (Dumped left) other comes links = li
 link_stays words files before after old new (Replayed events turns dump entries) other comes links = links
 link_stays words files before after old new (Served asked end) other comes links = absurd (other (serving_asked words files asked end comes.0))
 link_stays words files before after old new (Answered text) other comes links = links
+link_stays words files before after old new (Explained line cause content) other comes links = links
 link_stays words files before after old new (Sampled text) other comes links = links
 link_stays words files before after old new OutOfMemory other comes links = unopened words old new other links
 
@@ -228,6 +247,7 @@ count_stays words files before after (Dumped left) status is other comes = comes
 count_stays words files before after (Replayed events turns dump entries) status is other comes = comes.1
 count_stays words files before after (Served asked end) status is other comes = comes.1
 count_stays words files before after (Answered text) status is other comes = comes.1
+count_stays words files before after (Explained line cause content) status is other comes = comes.1
 count_stays words files before after (Sampled text) status is other comes = comes.1
 count_stays words files before after OutOfMemory status is other comes = comes
 
@@ -246,6 +266,7 @@ link_count_stays words (Dumped left) old new status is not_fault not_store not_m
 link_count_stays words (Replayed events turns dump entries) old new status is not_fault not_store not_memory links = ap (λ link. link.faults) links
 link_count_stays words (Served asked end) old new status is not_fault not_store not_memory links = serve_count_stays asked old new end links status is not_fault not_store not_memory
 link_count_stays words (Answered text) old new status is not_fault not_store not_memory links = ap (λ link. link.faults) links
+link_count_stays words (Explained line cause content) old new status is not_fault not_store not_memory links = ap (λ link. link.faults) links
 link_count_stays words (Sampled text) old new status is not_fault not_store not_memory links = ap (λ link. link.faults) links
 link_count_stays words OutOfMemory old new status is not_fault not_store not_memory links = opened_count words old new links
 

@@ -14,7 +14,7 @@ use Rattle.command_files.specs.Outside.{Written}
 use Rattle.command_files.specs.Troubles.{trouble_text}
 use Rattle.acl_program.specs.declared.status.Status.{Status}
 use Rattle.acl_program.specs.declared.status.Status.TheVariants.{Done, Usage, BadData, ShelfFault, SinkFault, LinkFault, TurnsSpent, NoMemory, BadScript, NotProved, StoreFault}
-use Rattle.acl_program.specs.Outcomes.{Outcome, NoCommand, NoFile, BadDataLine, BadChangesLine, BadLine, FalseLine, Checked, Dumped, Replayed, Served, Answered, Sampled, OutOfMemory, text_of, status_of, settled}
+use Rattle.acl_program.specs.Outcomes.{Outcome, NoCommand, NoFile, BadDataLine, BadChangesLine, BadLine, FalseLine, Checked, Dumped, Replayed, Served, Answered, Explained, Sampled, OutOfMemory, text_of, status_of, settled}
 use Rattle.acl_program.specs.Troubles.{outcome_of}
 use Rattle.acl_program.specs.program.Running.{PutsFront}
 use Rattle.acl_program.specs.serve.Serving.{ServeEnd, NotStored, NotBegun, NotOpened, NotServed, LoopEnded, serve_status}
@@ -50,6 +50,7 @@ status_of-not_sink (Dumped left) is = cc
 status_of-not_sink (Replayed events turns dump entries) is = done_or_spent-not_sink (nat_lt (length (pieces buffer_length events)) turns) is
 status_of-not_sink (Served asked end) is = serve-not_sink end is
 status_of-not_sink (Answered text) is = cc
+status_of-not_sink (Explained line cause content) is = cc
 status_of-not_sink (Sampled text) is = cc
 status_of-not_sink OutOfMemory is = cc
 

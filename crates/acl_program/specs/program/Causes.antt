@@ -8,7 +8,7 @@ use Rattle.command_files.specs.wire_io.Files.{Files}
 use Rattle.command_files.specs.wire_io.Journal.{was_stopped}
 use Rattle.session_hub.specs.declared.ended.Ended.TheVariants as ended
 use Rattle.session_hub.specs.Parties.{Requester}
-use Rattle.command_words.specs.command.Command.{CommandView, ServingView, Serve, Replay, Check, Dump, Explain, Sample, Ask, Prove, Verify, Rights, Help, Version, IsCommand}
+use Rattle.command_words.specs.command.Command.{CommandView, ServingView, Serve, Replay, Check, Why, Dump, Explain, Sample, Ask, Prove, Verify, Rights, Help, Version, IsCommand}
 use Rattle.certify.specs.explanation.Questions.{Question}
 use Rattle.certify.specs.explanation.Reading.{question_of}
 use Rattle.certify.specs.explanation.NameWords.{who_of, target_of}
@@ -20,7 +20,7 @@ use Rattle.command_files.specs.dir_tree.Entry.{EntryInformation}
 use Rattle.command_files.specs.dn_names.name.Names.{RdnSequence}
 use Rattle.command_files.specs.ldif_load.load.DataFile.{FileCause}
 use Rattle.command_files.specs.loading.Accepting.{IsUnread, IsUnreadBeside, IsBadBeside, IsLoaded, IsLoadedFrom, HoldsIn, FailsIn, IsTold, IsGoodData, IsBadData, IsGoodScript, IsBadScript, IsBadRequests}
-use Rattle.acl_program.specs.Outcomes.{Outcome, NoCommand, NoFile, BadDataLine, BadChangesLine, BadLine, FalseLine, Checked, Dumped, Replayed, Served, Answered, Sampled, OutOfMemory}
+use Rattle.acl_program.specs.Outcomes.{Outcome, NoCommand, NoFile, BadDataLine, BadChangesLine, BadLine, FalseLine, Checked, Dumped, Replayed, Served, Answered, Explained, Sampled, OutOfMemory}
 use Rattle.acl_program.specs.program.Outside.{Linked}
 use Rattle.acl_program.specs.Answering.{IsBadCertificate, IsFalseCertificate, AsksAnswer}
 use Rattle.acl_program.specs.Sampling.{Samples, RefusesSample}
@@ -32,6 +32,7 @@ abbrev pub IsPerformed : CommandView → Type 0
 IsPerformed (Serve serving) = Unit {0}
 IsPerformed (Replay data_file script turns dump) = Unit {0}
 IsPerformed (Check data_file changes) = Unit {0}
+IsPerformed (Why data_file) = Unit {0}
 IsPerformed (Dump data_file changes) = Unit {0}
 IsPerformed (Explain data_file who target item permission) = (question : Question) × (question_of who target item permission ≡ Some question)
 IsPerformed (Sample count) = Unit {0}
@@ -51,6 +52,7 @@ abbrev pub data_of : CommandView → Option (List ℕ)
 data_of (Serve serving) = Some serving.data_file
 data_of (Replay data_file script turns dump) = Some data_file
 data_of (Check data_file changes) = Some data_file
+data_of (Why data_file) = Some data_file
 data_of (Dump data_file changes) = Some data_file
 data_of (Explain data_file who target item permission) = Some data_file
 data_of (Sample count) = None
@@ -75,6 +77,7 @@ abbrev pub second_of : CommandView → Option Second
 second_of (Serve serving) = None
 second_of (Replay data_file script turns dump) = Some (second_named second.Script script)
 second_of (Check data_file changes) = None
+second_of (Why data_file) = None
 second_of (Dump data_file changes) = None
 second_of (Explain data_file who target item permission) = None
 second_of (Sample count) = None
@@ -90,6 +93,7 @@ abbrev pub changes_of : CommandView → Option (List ℕ)
 changes_of (Serve serving) = serving.changes
 changes_of (Replay data_file script turns dump) = None
 changes_of (Check data_file changes) = changes
+changes_of (Why data_file) = None
 changes_of (Dump data_file changes) = changes
 changes_of (Explain data_file who target item permission) = None
 changes_of (Sample count) = None
@@ -145,6 +149,13 @@ pub record RefusesData (words : List (List ℕ)) (files : Option Files) (line : 
   pub data_file : List ℕ
   pub asked : AsksData words data_file
   pub bad : FailsIn files data_file (IsBadData line cause)
+
+-- the words ask why a data file is refused; it has this content, which is refused for this cause at this line
+pub record ExplainsData (words : List (List ℕ)) (files : Option Files) (line : ℕ) (cause : FileCause) (content : List ℕ) : Type 0 where
+  pub data_file : List ℕ
+  pub asked : IsCommand words (Why data_file)
+  pub is : HoldsIn files data_file (λ own. own ≡ content)
+  pub bad : IsBadData line cause content
 
 -- the data file was accepted, and the file of changes is refused
 pub record RefusesChanges (words : List (List ℕ)) (files : Option Files) (line : ℕ) (cause : ChangesCause) : Type 0 where
@@ -218,6 +229,7 @@ Comes words files before after (Dumped left) = AsksLoaded Dump words (HoldsIn fi
 Comes words files before after (Replayed events turns dump entries) = AsksBoth words files events turns dump entries × (after ≡ before)
 Comes words files before after (Served asks end) = AsksServe words files asks end × (after ≡ before)
 Comes words files before after (Answered text) = AsksAnswer words (HoldsIn files) text × (after ≡ before)
+Comes words files before after (Explained line cause content) = ExplainsData words files line cause content × (after ≡ before)
 Comes words files before after (Sampled text) = Samples words text × (after ≡ before)
 Comes words files before after OutOfMemory = after ≡ before
 
@@ -240,6 +252,7 @@ Links words (Dumped left) before after = after ≡ before
 Links words (Replayed events turns dump entries) before after = after ≡ before
 Links words (Served asks end) before after = LinkServes asks end before after
 Links words (Answered text) before after = after ≡ before
+Links words (Explained line cause content) before after = after ≡ before
 Links words (Sampled text) before after = after ≡ before
 Links words OutOfMemory before after = MayOpenStore words before after
 
@@ -265,5 +278,6 @@ IsDue words files old new (Served asks end) =
     (end ≡ LoopEnded ended.Stopped) × IsCommand words (Serve asks.serving)
     × IsLoadedFrom (IsTold files) asks.serving.data_file asks.serving.changes asks.content asks.left × (Rose old.faults new.faults → ⊥) × HearsStop old.journal new.journal
 IsDue words files old new (Answered text) = AsksAnswer words (IsTold files) text
+IsDue words files old new (Explained line cause content) = ⊥
 IsDue words files old new (Sampled text) = Samples words text
 IsDue words files old new OutOfMemory = ⊥

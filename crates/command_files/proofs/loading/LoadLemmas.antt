@@ -29,7 +29,7 @@ use Rattle.data_file.specs.declared.fault.DataFault.TheVariants as loading
 use Rattle.wire_io.specs.plain_values.Answers.{IsFaultOf}
 use Rattle.data_file.specs.Files.{cause_of, fault_of}
 use Rattle.command_files.specs.loading.Accepting.{HoldsOf, HoldsIn, FailsIn, IsUnread, IsBadData, IsGoodData, IsTooLong, IsBadScript, IsGoodScript, IsBadRequests, IsGoodRequests, IsContent, most_data, most_second}
-use Rattle.command_files.specs.loading.Loading.{IsRefused, IsMisread, LoadsCertificate, LoadsRequests, LoadsScript, LoadsData, LoadsFile, ReadsRequests, ReadsScript, ReadsData, ReadsFile, data_trouble_of_file, trouble_of_asks, trouble_of_data, trouble_of_file, trouble_of_script}
+use Rattle.command_files.specs.loading.Loading.{IsRefused, IsMisread, LoadsCertificate, LoadsRequests, LoadsScript, LoadsContent, LoadsData, LoadsFile, ReadsRequests, ReadsScript, ReadsData, ReadsFile, data_trouble_of_file, trouble_of_asks, trouble_of_data, trouble_of_file, trouble_of_script}
 
 -- what holds of the content that was given holds of the file, where the shelf tells
 pub HoldsIn-given : (files : Option Files) (name content : List ℕ) (P : List ℕ → Type 0) → GivesFile files name content → P content → HoldsIn files name P
@@ -183,6 +183,17 @@ LoadsFile-read files name content before after text result gives stays reads = f
 pub LoadsFile-untaken : (files : Option Files) (name : List ℕ) (before after : ℕ) (why : Trouble) → LoadsData files name before after (Err why) → LoadsFile files name before after (Err why)
 unfolding LoadsFile
 LoadsFile-untaken files name before after why loads = loads
+
+-- the content of a file that was given
+pub LoadsContent-read :
+    (files : Option Files) (name : List ℕ) (before after : ℕ) (text : Vec ℕ Global)
+    → length text.items ≤ most_data → GivesFile files name text.items → ReadCause {T = Vec ℕ Global} files name most_data before after (Ok text) → LoadsContent files name before after (Ok text)
+unfolding LoadsContent ReadCause
+LoadsContent-read files name before after text short gives stays = (HoldsIn-given files name text.items (λ content. content ≡ text.items) gives refl, short, stays)
+
+pub LoadsContent-untaken : (files : Option Files) (name : List ℕ) (before after : ℕ) (why : Trouble) → LoadsData files name before after (Err why) → LoadsContent files name before after (Err why)
+unfolding LoadsContent
+LoadsContent-untaken files name before after why loads = loads
 
 -- a file that is too long is not accepted
 data_too_long : (file : Option (List ℕ)) (line : ℕ) → IsLongerFile file most_data line → HoldsOf (IsBadData line (OfRecord Limit)) file

@@ -1,5 +1,5 @@
 -- What reading the files of a command gives, and why it gives nothing.
-use Rattle.std.specs.Prelude.{◌≡◌, ◌⊎◌, ℕ, List, [], Option, Result, Ok, Err, Vec}
+use Rattle.std.specs.Prelude.{◌≡◌, ◌⊎◌, ◌≤◌, ℕ, List, [], length, Option, Result, Ok, Err, Vec}
 use Rattle.std.specs.Global.{Global}
 use Rattle.wire_io.specs.script_text.declared.event.ScriptFault.{ScriptFault}
 use Rattle.wire_io.specs.script_text.declared.event.ScriptFault.TheVariants as script
@@ -29,7 +29,7 @@ use Rattle.command_files.specs.declared.changing.ChangesCause.TheVariants as cha
 use Rattle.command_files.specs.declared.changing.ChangesFault.{ChangesFault}
 use Rattle.command_files.specs.declared.changing.ChangesFault.TheVariants as changing
 use Rattle.command_files.specs.loading.Changing.{changed_by, left_of}
-use Rattle.command_files.specs.loading.Accepting.{IsUnread, HoldsIn, FailsIn, IsBadBeside, IsBadChanges, IsBadData, IsGoodChanges, IsGoodData, IsLoaded, IsUnreadBeside, IsTooLong, IsBadScript, IsGoodScript, IsBadRequests, IsGoodRequests, IsContent}
+use Rattle.command_files.specs.loading.Accepting.{IsUnread, HoldsIn, FailsIn, IsBadBeside, IsBadChanges, IsBadData, IsGoodChanges, IsGoodData, IsLoaded, IsUnreadBeside, IsTooLong, IsBadScript, IsGoodScript, IsBadRequests, IsGoodRequests, IsContent, most_data}
 
 -- the data file of the name was loaded, or why not
 unfoldable pub LoadsData : Option Files → List ℕ → ℕ → ℕ → Result (List Numbered) Trouble → Type 0
@@ -59,6 +59,12 @@ unfoldable pub LoadsFile : Option Files → List ℕ → ℕ → ℕ → Result 
 LoadsFile files name before after (Ok file) =
     HoldsIn files name (λ content. content ≡ file.content.items) × ReadsData file.content.items (Ok file.tree) × (after ≡ before)
 LoadsFile files name before after (Err why) = LoadsData files name before after (Err why)
+
+-- the octets of the data file of the name were read, which are at most as many as it may have, or why not
+unfoldable pub LoadsContent : Option Files → List ℕ → ℕ → ℕ → Result (Vec ℕ Global) Trouble → Type 0
+LoadsContent files name before after (Ok octets) =
+    HoldsIn files name (λ content. content ≡ octets.items) × (length octets.items ≤ most_data) × (after ≡ before)
+LoadsContent files name before after (Err why) = LoadsData files name before after (Err why)
 
 -- why a file that is read after the data file isn't taken, where a line of it is bad in this sense
 unfoldable pub IsRefused : SecondFile → (ℕ → List ℕ → Type 0) → Option Files → List ℕ → ℕ → ℕ → Trouble → Type 0

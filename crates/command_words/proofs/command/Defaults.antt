@@ -71,6 +71,7 @@ option-default options.Limit sought rows written = ap (all_of (id_of sought)) (v
 option-default options.Dump sought rows written = flag-default (option_word options.Dump) (id_of sought) rows (flag-differs options.Dump sought refl written)
 option-default options.Script sought rows written = flag-default (option_word options.Script) (id_of sought) rows (flag-differs options.Script sought refl written)
 option-default options.Changes sought rows written = ap (all_of (id_of sought)) (value-default (option_word options.Changes) rows)
+option-default options.Why sought rows written = flag-default (option_word options.Why) (id_of sought) rows (flag-differs options.Why sought refl written)
 
 options-default : (names : List OptionName) (sought : Sought) (rows : List Kept) → IsWritten sought → all_of (id_of sought) (fold with_default rows (map option names)) ≡ all_of (id_of sought) rows
 options-default [] sought rows written = refl
@@ -125,6 +126,7 @@ default-passes options.Limit rows = rw (or-true (has_row (option_word options.Li
 default-passes options.Dump rows = plain-passes (has_row (option_word options.Dump) rows || false) [] refl
 default-passes options.Script rows = plain-passes (has_row (option_word options.Script) rows || false) [] refl
 default-passes options.Changes rows = rw (or-true (has_row (option_word options.Changes) rows)) refl
+default-passes options.Why rows = plain-passes (has_row (option_word options.Why) rows || false) [] refl
 
 defaults-pass : (names : List OptionName) (rows : List Kept) → defaults_fault rows (map option names) ≡ []
 unfolding defaults_fault

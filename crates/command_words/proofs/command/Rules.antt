@@ -143,6 +143,7 @@ by-id row name named = other name ∙ find-option _ (λ (own : OptionName). byte
     other options.Dump = refl
     other options.Script = refl
     other options.Changes = refl
+    other options.Why = refl
 
 -- nothing has a name of one character
 pub by-short : (row : Row) (x : ℕ) → arg_by_short (rules row) x ≡ None

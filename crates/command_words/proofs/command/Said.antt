@@ -42,6 +42,14 @@ script-same rows line holds =
     let left : defaulted (row_of commands.Ask) rows ≡ with_default rows script = ap (λ (base : List Kept). with_default base script) (operand-default rows) in
     ap (λ (base : List Kept). is_set (kept_text (all_of (option_word options.Script) base) 0)) left ∙ flag-set options.Script refl (texts_of (Arguments options.Script) line) rows (holds.fits (Arguments options.Script))
 
+why-same : (rows : List Kept) (line : Line) → Holds rows (λ sought. texts_of sought line) → is_set (kept_text (kept_at_end (row_of commands.Check) rows (Arguments options.Why)) 0) ≡ is_some (slice_get (texts_of (Arguments options.Why) line) 0)
+why-same rows line holds =
+    let why = option_by false (option_word options.Why) in
+    let left : defaulted (row_of commands.Check) rows ≡ with_default rows why =
+    ap (λ (base : List Kept). with_default (with_default base (option_by true (option_word options.Changes))) why) (operand-default rows)
+    ∙ ap (λ (base : List Kept). with_default base why) (value-default (option_word options.Changes) rows) in
+    ap (λ (base : List Kept). is_set (kept_text (all_of (option_word options.Why) base) 0)) left ∙ flag-set options.Why refl (texts_of (Arguments options.Why) line) rows (holds.fits (Arguments options.Why))
+
 -- one case a command
 pub said-same : (name : CommandName) (rows : List Kept) (line : Line) → Holds rows (λ sought. texts_of sought line) → kept_said name (kept_at_end (row_of name) rows) ≡ line_said name line
 unfolding command_said
@@ -53,7 +61,7 @@ said-same commands.Replay rows line holds =
     rw (own Operands 0 refl, own Operands 1 refl, own (Arguments options.Turns) 0 refl, dump-same rows line holds) refl
 said-same commands.Check rows line holds =
     let own : (sought : Sought) → IsWritten sought → kept_text (kept_at_end (row_of commands.Check) rows sought) 0 ≡ slice_get (texts_of sought line) 0 = λ sought written. text-same (row_of commands.Check) rows line sought 0 holds written in
-    rw (own Operands refl, own (Arguments options.Changes) refl) refl
+    rw (own Operands refl, own (Arguments options.Changes) refl, why-same rows line holds) refl
 said-same commands.Dump rows line holds =
     let own : (sought : Sought) → IsWritten sought → kept_text (kept_at_end (row_of commands.Dump) rows sought) 0 ≡ slice_get (texts_of sought line) 0 = λ sought written. text-same (row_of commands.Dump) rows line sought 0 holds written in
     rw (own Operands refl, own (Arguments options.Changes) refl) refl

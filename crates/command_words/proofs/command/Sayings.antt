@@ -1,5 +1,5 @@
 -- What a line of each command says: the function against the relation.
-use Rattle.std.proofs.Common.{◌≡◌, ℕ, ◌≤◌, Bool, eqb, List, [], ◌∷◌, length, Option, Some, is_some, sym, refl, ap, subst, ◌∙◌, arith}
+use Rattle.std.proofs.Common.{◌≡◌, ℕ, ◌≤◌, Bool, true, eqb, List, [], ◌∷◌, length, Option, Some, None, is_some, sym, refl, ap, subst, ◌∙◌, arith}
 use Rattle.std.specs.Prelude.{slice_get}
 use Rattle.std.specs.List.{AllByRecursion}
 use Rattle.std.proofs.lemmas.Option.{same_Some}
@@ -11,8 +11,8 @@ use Rattle.command_words.specs.Table.{Row, row_of}
 use Rattle.command_words.specs.command.Line.{Line, texts_of}
 use Rattle.command_words.specs.Number.{number_said, number_within}
 use Rattle.command_words.specs.Address.{address_of}
-use Rattle.command_words.specs.command.Command.{CommandView, ServingView, Serve, Replay, Check, Dump, Explain, Sample, Ask, Prove, Verify, Rights, Help, Version, Says, SaysText, sessions_range, turns_range, queues_range, idle_range, limit_range}
-use Rattle.command_words.specs.parser.Asked.{command_said, ◌>>=◌}
+use Rattle.command_words.specs.command.Command.{CommandView, ServingView, Serve, Replay, Check, Why, Dump, Explain, Sample, Ask, Prove, Verify, Rights, Help, Version, Says, SaysText, sessions_range, turns_range, queues_range, idle_range, limit_range}
+use Rattle.command_words.specs.parser.Asked.{command_said, check_of, ◌>>=◌}
 use Rattle.command_words.proofs.number.Numbers.{and_then-some, number_said-sound, number_said-complete, number_within-sound, number_within-complete}
 use Rattle.command_words.proofs.address.Addresses.{address_of-sound, address_of-complete}
 
@@ -97,10 +97,10 @@ replay_said operands turns dump = do
   events ← number_said turns_range (slice_get turns 0)
   Some (Replay data_file script events dump)
 
-abbrev check_said : List (List ℕ) → Option (List ℕ) → Option CommandView
-check_said operands changes = do
+abbrev check_said : List (List ℕ) → Option (List ℕ) → Bool → Option CommandView
+check_said operands changes why = do
   data_file ← slice_get operands 0
-  Some (Check data_file changes)
+  check_of data_file changes why
 
 abbrev dump_said : List (List ℕ) → Option (List ℕ) → Option CommandView
 dump_said operands changes = do
@@ -261,17 +261,43 @@ sample-complete : (line : Line) (count : ℕ) → Says commands.Sample line (Sam
 sample-complete line count says =
     ap sample_said says.1 ∙ ap (λ (found : Option ℕ). found >>= (λ (own : ℕ). Some (Sample own))) (number_within-complete 20 1 20000 says.0 count says.2)
 
-check-sound : (line : Line) (asked : CommandView) → Taken (row_of commands.Check) line → check_said (texts_of Operands line) (slice_get (texts_of (Arguments options.Changes) line) 0) ≡ Some asked → Says commands.Check line asked
+-- a check by its file of changes, and by the flag, each of which stands once at most
+check_of-sound : (line : Line) (data_file : List ℕ) (asked : CommandView) (changes why : List (List ℕ)) → texts_of Operands line ≡ data_file ∷ [] → changes ≡ texts_of (Arguments options.Changes) line
+    → why ≡ texts_of (Arguments options.Why) line → length changes ≤ 1 → length why ≤ 1 → check_of data_file (slice_get changes 0) (is_some (slice_get why 0)) ≡ Some asked → Says commands.Check line asked
+check_of-sound line data_file asked changes [] own changes_is why_is once once_why given =
+    subst (Says commands.Check line) (same_Some (Check data_file (slice_get changes 0)) asked given)
+    (own, subst (λ (texts : List (List ℕ)). SaysText texts (slice_get changes 0)) changes_is (text-sound changes once), sym why_is)
+check_of-sound line data_file asked [] (text ∷ more) own changes_is why_is once once_why given =
+    subst (Says commands.Check line) (same_Some (Why data_file) asked given) (own, sym changes_is, omega (arith, ap length why_is, once_why))
+check_of-sound line data_file asked (name ∷ names) (text ∷ more) own changes_is why_is once once_why given = absurd (cc (given))
+
+check-sound : (line : Line) (asked : CommandView) → Taken (row_of commands.Check) line → check_said (texts_of Operands line) (slice_get (texts_of (Arguments options.Changes) line) 0) (is_some (slice_get (texts_of (Arguments options.Why) line) 0)) ≡ Some asked → Says commands.Check line asked
 check-sound line asked is given =
     let changes = texts_of (Arguments options.Changes) line in
+    let why = texts_of (Arguments options.Why) line in
     let own = alone (texts_of Operands line) is.operands in
-    subst (Says commands.Check line) (same_Some (Check own.0 (slice_get changes 0)) asked (sym (ap (λ (operands : List (List ℕ)). check_said operands (slice_get changes 0)) own.1) ∙ given)) (own.1, text-sound changes is.once.0)
+    check_of-sound line own.0 asked changes why own.1 refl refl is.once.0 is.once.1.0 (sym (ap (λ (operands : List (List ℕ)). check_said operands (slice_get changes 0) (is_some (slice_get why 0))) own.1) ∙ given)
 
-check-complete : (line : Line) (data_file : List ℕ) (changes : Option (List ℕ)) → Says commands.Check line (Check data_file changes) → check_said (texts_of Operands line) (slice_get (texts_of (Arguments options.Changes) line) 0) ≡ Some (Check data_file changes)
+check-complete : (line : Line) (data_file : List ℕ) (changes : Option (List ℕ)) → Says commands.Check line (Check data_file changes) → check_said (texts_of Operands line) (slice_get (texts_of (Arguments options.Changes) line) 0) (is_some (slice_get (texts_of (Arguments options.Why) line) 0)) ≡ Some (Check data_file changes)
 check-complete line data_file changes says =
     let given = texts_of (Arguments options.Changes) line in
-    ap (λ (operands : List (List ℕ)). check_said operands (slice_get given 0)) says.0
+    let why = texts_of (Arguments options.Why) line in
+    ap (λ (operands : List (List ℕ)). check_said operands (slice_get given 0) (is_some (slice_get why 0))) says.0
+    ∙ ap (λ (texts : List (List ℕ)). check_of data_file (slice_get given 0) (is_some (slice_get texts 0))) says.2
     ∙ ap (λ (own : Option (List ℕ)). Some (Check data_file own)) (text-complete given changes says.1)
+
+-- what stands once has a first
+one-first : (texts : List (List ℕ)) → length texts ≡ 1 → is_some (slice_get texts 0) ≡ true
+one-first [] one = absurd (omega (arith, one))
+one-first (text ∷ texts) one = refl
+
+why-complete : (line : Line) (data_file : List ℕ) → Says commands.Check line (Why data_file) → check_said (texts_of Operands line) (slice_get (texts_of (Arguments options.Changes) line) 0) (is_some (slice_get (texts_of (Arguments options.Why) line) 0)) ≡ Some (Why data_file)
+why-complete line data_file says =
+    let given = texts_of (Arguments options.Changes) line in
+    let why = texts_of (Arguments options.Why) line in
+    ap (λ (operands : List (List ℕ)). check_said operands (slice_get given 0) (is_some (slice_get why 0))) says.0
+    ∙ ap (λ (texts : List (List ℕ)). check_of data_file (slice_get texts 0) (is_some (slice_get why 0))) says.1
+    ∙ ap (λ (flag : Bool). check_of data_file None flag) (one-first why says.2)
 
 dump-sound : (line : Line) (asked : CommandView) → Taken (row_of commands.Dump) line → dump_said (texts_of Operands line) (slice_get (texts_of (Arguments options.Changes) line) 0) ≡ Some asked → Says commands.Dump line asked
 dump-sound line asked is given =
@@ -314,6 +340,7 @@ unfolding command_said
 command_said-complete commands.Serve line (Serve serving) is says = serve-complete line serving says
 command_said-complete commands.Replay line (Replay data_file script events dump) is says = replay-complete line data_file script events dump is says
 command_said-complete commands.Check line (Check data_file changes) is says = check-complete line data_file changes says
+command_said-complete commands.Check line (Why data_file) is says = why-complete line data_file says
 command_said-complete commands.Dump line (Dump data_file changes) is says = dump-complete line data_file changes says
 command_said-complete commands.Explain line (Explain data_file who target item permission) is says = ap explain_said says
 command_said-complete commands.Sample line (Sample count) is says = sample-complete line count says

@@ -64,6 +64,7 @@ option-operands options.Limit = refl
 option-operands options.Dump = refl
 option-operands options.Script = refl
 option-operands options.Changes = refl
+option-operands options.Why = refl
 
 operands-option : (name : OptionName) → bytes_eq (codes "operands") (option_word name) ≡ false
 operands-option name = bytes_eq-back (codes "operands") (option_word name) ∙ option-operands name

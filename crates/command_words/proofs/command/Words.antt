@@ -123,6 +123,7 @@ option_word-whole options.Limit = refl
 option_word-whole options.Dump = refl
 option_word-whole options.Script = refl
 option_word-whole options.Changes = refl
+option_word-whole options.Why = refl
 
 pub option_word-parts : (name : OptionName) (value : Text) → name_and_value (option_word name ++ 61 ∷ value) ≡ (option_word name, Some value)
 option_word-parts options.Sessions value = refl
@@ -133,6 +134,7 @@ option_word-parts options.Limit value = refl
 option_word-parts options.Dump value = refl
 option_word-parts options.Script value = refl
 option_word-parts options.Changes value = refl
+option_word-parts options.Why value = refl
 
 -- and a first character
 pub record Begins (text : Text) : Type 0 where
@@ -149,3 +151,4 @@ option_word-begins options.Limit = record { first = _; more = _; is = refl }
 option_word-begins options.Dump = record { first = _; more = _; is = refl }
 option_word-begins options.Script = record { first = _; more = _; is = refl }
 option_word-begins options.Changes = record { first = _; more = _; is = refl }
+option_word-begins options.Why = record { first = _; more = _; is = refl }

@@ -62,7 +62,7 @@ command_named-complete commands.Version = refl
 
 -- all options
 abbrev all_options : List OptionName
-all_options = options.Sessions ∷ options.Turns ∷ options.Queues ∷ options.Idle ∷ options.Limit ∷ options.Dump ∷ options.Script ∷ options.Changes ∷ []
+all_options = options.Sessions ∷ options.Turns ∷ options.Queues ∷ options.Idle ∷ options.Limit ∷ options.Dump ∷ options.Script ∷ options.Changes ∷ options.Why ∷ []
 
 -- each is found by its word, so that options of one word are one
 word-found : (name : OptionName) → find (λ other. bytes_eq (option_word name) (option_word other)) all_options ≡ Some name
@@ -74,6 +74,7 @@ word-found options.Limit = refl
 word-found options.Dump = refl
 word-found options.Script = refl
 word-found options.Changes = refl
+word-found options.Why = refl
 
 pub option_word-once : (one other : OptionName) → option_word one ≡ option_word other → one ≡ other
 option_word-once one other is =

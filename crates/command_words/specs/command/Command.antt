@@ -31,6 +31,7 @@ pub data CommandView : Type 0 where
   Serve : (serving : ServingView) → CommandView
   Replay : (data_file script : List ℕ) (turns : ℕ) (dump : Bool) → CommandView
   Check : (data_file : List ℕ) (changes : Option (List ℕ)) → CommandView
+  Why : (data_file : List ℕ) → CommandView
   Dump : (data_file : List ℕ) (changes : Option (List ℕ)) → CommandView
   Explain : (data_file who target item permission : List ℕ) → CommandView
   Sample : (count : ℕ) → CommandView
@@ -59,6 +60,7 @@ abbrev pub view : Command → CommandView
 view (command.Serve serving) = Serve (serving_view serving)
 view (command.Replay data_file script turns dump) = Replay data_file.now script.now turns dump
 view (command.Check data_file changes) = Check data_file.now (option_copied changes)
+view (command.Why data_file) = Why data_file.now
 view (command.Dump data_file changes) = Dump data_file.now (option_copied changes)
 view (command.Explain data_file who target item permission) = Explain data_file.now who.now target.now item.now permission.now
 view (command.Sample count) = Sample count
@@ -110,7 +112,8 @@ pub record SaysServing (line : Line) (serving : ServingView) : Type 0 where
   pub limit : SaysNumber limit_range (texts_of (Arguments options.Limit) line) serving.limit
   pub changes : SaysText (texts_of (Arguments options.Changes) line) serving.changes
 
--- the command that a command's line says: its operands, its numbers and texts, and whether it has a flag
+-- the command that a command's line says: its operands, its numbers and texts, and whether it has a flag; a check whose
+-- line has `--why` has no file of changes
 abbrev pub Says : CommandName → Line → CommandView → Type 0
 Says commands.Serve line (Serve serving) = SaysServing line serving
 Says commands.Replay line (Replay data_file script turns dump) =
@@ -119,6 +122,10 @@ Says commands.Replay line (Replay data_file script turns dump) =
     × (dump ≡ (length (texts_of (Arguments options.Dump) line) == 1))
 Says commands.Check line (Check data_file changes) =
     (texts_of Operands line ≡ data_file ∷ []) × SaysText (texts_of (Arguments options.Changes) line) changes
+    × (texts_of (Arguments options.Why) line ≡ [])
+Says commands.Check line (Why data_file) =
+    (texts_of Operands line ≡ data_file ∷ []) × (texts_of (Arguments options.Changes) line ≡ [])
+    × (length (texts_of (Arguments options.Why) line) ≡ 1)
 Says commands.Dump line (Dump data_file changes) =
     (texts_of Operands line ≡ data_file ∷ []) × SaysText (texts_of (Arguments options.Changes) line) changes
 Says commands.Explain line (Explain data_file who target item permission) =

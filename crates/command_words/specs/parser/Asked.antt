@@ -1,5 +1,5 @@
 -- What the kept texts of a command say, and what a reading of words has to give.
-use Rattle.std.specs.Prelude.{◌≡◌, ℕ, Bool, List, length, Option, Some, None, ◌==◌, if◌then◌else◌}
+use Rattle.std.specs.Prelude.{◌≡◌, ℕ, Bool, true, false, List, length, Option, Some, None, ◌==◌, if◌then◌else◌}
 pub use Rattle.plain_values.specs.Options.{◌>>=◌}
 use Rattle.clap.specs.declared.parser.matches.ArgMatches.{ArgMatches}
 use Rattle.command_words.specs.declared.table.CommandName.{CommandName}
@@ -12,8 +12,14 @@ use Rattle.command_words.specs.Table.{row_of}
 use Rattle.command_words.specs.command.Line.{Line, IsLine, line_words}
 use Rattle.command_words.specs.Number.{number_said, number_within}
 use Rattle.command_words.specs.Address.{address_of}
-use Rattle.command_words.specs.command.Command.{CommandView, Serve, Replay, Check, Dump, Explain, Sample, Ask, Prove, Verify, Rights, Help, Version, Says, IsCommand, sessions_range, turns_range, queues_range, idle_range, limit_range}
+use Rattle.command_words.specs.command.Command.{CommandView, Serve, Replay, Check, Why, Dump, Explain, Sample, Ask, Prove, Verify, Rights, Help, Version, Says, IsCommand, sessions_range, turns_range, queues_range, idle_range, limit_range}
 use Rattle.command_words.specs.parser.Parser.{kept_in, kept_text, is_set}
+
+-- the check that the name of a data file, that of a file of changes and a flag say: why is told of a data file alone
+abbrev pub check_of : List ℕ → Option (List ℕ) → Bool → Option CommandView
+check_of data_file changes false = Some (Check data_file changes)
+check_of data_file None true = Some (Why data_file)
+check_of data_file (Some changes) true = None
 
 -- the command that texts say, and whether it has a flag: one case a command
 unfoldable pub command_said : CommandName → (Sought → ℕ → Option (List ℕ)) → (OptionName → Bool) → Option CommandView
@@ -43,7 +49,7 @@ command_said commands.Replay text has = do
   Some (Replay data_file script turns (has options.Dump))
 command_said commands.Check text has = do
   data_file ← text Operands 0
-  Some (Check data_file (text (Arguments options.Changes) 0))
+  check_of data_file (text (Arguments options.Changes) 0) (has options.Why)
 command_said commands.Dump text has = do
   data_file ← text Operands 0
   Some (Dump data_file (text (Arguments options.Changes) 0))

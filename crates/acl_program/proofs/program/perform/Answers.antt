@@ -15,6 +15,9 @@ returns-in-Replay-clause-performs g c = rw c.in-Replay.is (c.replay.ensures.perf
 pub returns-in-Check-clause-performs : goal.returns-in-Check-clause-performs
 returns-in-Check-clause-performs g c = rw c.in-Check.is (c.check.ensures.performs (linked _ _ _ _))
 
+pub returns-in-Why-clause-performs : goal.returns-in-Why-clause-performs
+returns-in-Why-clause-performs g c = rw c.in-Why.is (c.tell_why.ensures.performs (linked _ _ _ _))
+
 pub returns-in-Dump-clause-performs : goal.returns-in-Dump-clause-performs
 returns-in-Dump-clause-performs g c = rw c.in-Dump.is (c.dump.ensures.performs (linked _ _ _ _))
 
