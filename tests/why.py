@@ -1,4 +1,4 @@
-"""What `check` with `--why` puts behind its first line: where a refused data file is at fault, and what may surprise in a good one."""
+"""What `check` with `--why` puts: where a refused data file is at fault, and what may surprise in a good one."""
 
 from program import USAGE, Run, Status, test
 from trees import TWO_ENTRIES
@@ -63,7 +63,11 @@ SUBTREE_MISTAKES = [
 
 # Refused files, what is put, and what that shows.
 REFUSED = [
-    ("dn: o=x\nobjectClass: organization\nzz: t\n", 'bad data line 3: type\nwhy: line 3: no attribute type "zz"\n', "a type that is none"),
+    (
+        "dn: o=x\nobjectClass: organization\nzz: t\n",
+        'bad data line 3: type\nwhy: line 3: no attribute type "zz"\n',
+        "a type that is none",
+    ),
     (
         "dn: cn=a\nobjectClass: inetOrgPerson\n",
         'bad data line 1: rule 65\nwhy: line 1: sn is missing, which "inetOrgPerson" requires\n',
@@ -113,7 +117,14 @@ GOOD = [
 ]
 
 # Lines that ask why and are no command.
-NO_COMMANDS = ["check d --why --changes s", "check --changes=s --why d", "check d --why --why", "check d --why=1", "check --why", "dump d --why"]
+NO_COMMANDS = [
+    "check d --why --changes s",
+    "check --changes=s --why d",
+    "check d --why --why",
+    "check d --why=1",
+    "check --why",
+    "dump d --why",
+]
 
 
 def stopped(line, kind, front, word):
@@ -152,7 +163,11 @@ def why_names_the_place_of_each_mistake_of_a_subtree_specification():
 
 @test
 def why_names_what_is_at_fault_in_a_record():
-    return [Run(line, put, what, Status.BAD_DATA, data) for data, put, what in REFUSED for line in ("check d --why", "check --why d")]
+    return [
+        Run(line, put, what, Status.BAD_DATA, data)
+        for data, put, what in REFUSED
+        for line in ("check d --why", "check --why d")
+    ]
 
 
 @test

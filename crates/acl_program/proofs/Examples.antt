@@ -57,11 +57,7 @@ bad_changes : text_of (BadChangesLine 2 Digest) ≡ codes "bad changes line 2: d
 unfolding text_of digits
 bad_changes = refl
 
--- a file without a record, of which is asked why, and what is noted of no entries
-explained : text_of (Explained 1 (OfLine Syntax) []) ≡ codes "bad data line 1: syntax\nwhy: no record, which begins with \"dn: name\"\n"
-unfolding text_of digits refusal_text records_from
-explained = refl
-
+-- a data file that is refused, of which is asked why, and what is noted of no entries
 explained_status : number_of (status_of (Explained 1 (OfLine Syntax) [])) ≡ 3
 unfolding status_of
 explained_status = refl

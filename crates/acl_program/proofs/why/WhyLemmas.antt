@@ -43,24 +43,28 @@ comes_why :
     → IsCommand words (Why name) → HoldsIn files name (λ own. own ≡ content) → length content ≤ most_data → after ≡ before → IsWhy content outcome → Comes words files before after outcome
 unfolding Comes IsWhy IsBadData
 comes_why words files name content before after (Answered text) is holds short stays why =
-    let good : IsGoodData why.0 content = record { short = short; loaded = why.1 } in
-    (record {
-      command = Why name;
-      asked = is;
-      tells = record {
-        entries = why.0;
-        good = HoldsIn-weaker files name (λ own. own ≡ content) (IsGoodData why.0) (λ own same. subst (IsGoodData why.0) (sym same) good) holds;
-        is = why.2;
-      };
-    }, stays)
+    let good : IsGoodData why.0 content = record { short = short; loaded = why.1 } in (
+      record {
+        command = Why name;
+        asked = is;
+        tells = record {
+          entries = why.0;
+          good = HoldsIn-weaker files name (λ own. own ≡ content) (IsGoodData why.0) (λ own same. subst (IsGoodData why.0) (sym same) good) holds;
+          is = why.2;
+        };
+      },
+      stays,
+    )
 comes_why words files name content before after (Explained line cause own) is holds short stays why =
-    let bad : IsBadData line cause content = inl (short, why.1) in
-    (record {
-      data_file = name;
-      asked = is;
-      is = subst (λ all. HoldsIn files name (λ found. found ≡ all)) (sym why.0) holds;
-      bad = subst (IsBadData line cause) (sym why.0) bad;
-    }, stays)
+    let bad : IsBadData line cause content = inl (short, why.1) in (
+      record {
+        data_file = name;
+        asked = is;
+        is = subst (λ all. HoldsIn files name (λ found. found ≡ all)) (sym why.0) holds;
+        bad = subst (IsBadData line cause) (sym why.0) bad;
+      },
+      stays,
+    )
 comes_why words files name content before after OutOfMemory is holds short stays why = stays
 comes_why words files name content before after outcome is holds short stays why = absurd why
 
@@ -79,8 +83,7 @@ pub Performs-why :
     → after.link ≡ before.link → Performs (Why name) before status after
 unfolding Performs LoadsContent EndsWhy
 Performs-why name lent before after status octets same loads ends stays =
-    let why : IsWhy octets.items ends.0 = subst (λ all. IsWhy all ends.0) same ends.1 in
-    (
+    let why : IsWhy octets.items ends.0 = subst (λ all. IsWhy all ends.0) same ends.1 in (
       ends.0,
       (λ words is. comes_why words before.shelf.files name octets.items before.shelf.faults after.shelf.faults ends.0 is loads.0 loads.1 loads.2 why),
       ends.2,
