@@ -16,8 +16,8 @@ pub use data_file::{ldif_load, ldif_records};
 pub use dir_tree;
 pub use dir_tree::dn_names;
 pub use loading::{
-    DataFile, SecondFile, Trouble, load_asks, load_certificate, load_changes, load_content, load_data,
-    load_file, load_script, load_tree,
+    DataFile, SecondFile, Trouble, load_asks, load_certificate, load_changes, load_content,
+    load_data, load_file, load_script, load_tree,
 };
 pub use troubles::{bad_data_text, put_trouble};
 pub use wire_io;
