@@ -8,4 +8,6 @@ pub use Rattle.match_rules.proofs.laws.AsciiLemmas.{prepared_text-ascii}
 pub use Rattle.match_rules.proofs.laws.LawsLemmas.{prepared-phone, prepared-country, key_of-case, key_of-key, key_of-plain}
 -- the order of keys
 pub use Rattle.match_rules.proofs.laws.OrderLemmas.{slice_cmp-IsBefore}
+-- octets that are their own key, and texts of ASCII
+pub use Rattle.match_rules.proofs.own.OwnLemmas.{key_of-own}
 pub use Rattle.match_rules.proofs.own.LowerLemmas.{is_utf8-ascii}
