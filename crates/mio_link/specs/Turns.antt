@@ -38,7 +38,7 @@ AreBelow most places = AreOut places most
 
 -- the place is in the set, of which all are below this number
 abbrev pub StaysIn : ℕ → ℕ → (ℕ → Bool) → Type 0
-StaysIn most place places = (places place ≡ true) × AreOut places most
+StaysIn most place places = (places place ≡ true) × AreBelow most places
 
 -- a place that stays in the set, whatever else comes or goes, has its turn within as many turns as there may be places
 abbrev pub EachHasItsTurn : Type 0

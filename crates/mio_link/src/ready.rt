@@ -3,7 +3,7 @@
 ghost use Rattle.std.specs.Prelude.{◌≡◌, ◌≢◌, ℕ, ◌/◌, ◌%◌, true, false, ◌<◌, ◌≤◌, IfSome, MatchOption};
 ghost use Rattle.std.specs.Int.{bit_at};
 ghost use Rattle.mio_link.specs.Places.{has, bit_of};
-ghost use Rattle.mio_link.specs.Turns.{AreOut, IsFirst, Gives};
+ghost use Rattle.mio_link.specs.Turns.{AreBelow, AreOut, IsFirst, Gives};
 
 use crate::bits::{from_bit, lowest_bit, with_bit, without_bit};
 
@@ -52,7 +52,7 @@ impl Ready {
     /// The first of the places that isn't below this one; where there is none, the first of all.
     pub(crate) fn next(&self, from: usize) -> Option<usize>
         ensures exact { Gives (has self.now) from result }
-        ensures few { AreOut (has self.now) 320 }
+        ensures few { AreBelow 320 (has self.now) }
         ensures within { IfSome result (λ place. place < 320) }
     {
         match self.first(from) {

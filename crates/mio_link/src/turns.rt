@@ -2,7 +2,7 @@
 
 ghost use Rattle.std.specs.Prelude.{◌≡◌, ◌≢◌, ℕ, ◌+◌, ◌<◌, true, false, IfSome};
 ghost use Rattle.mio_link.specs.Places.{has};
-ghost use Rattle.mio_link.specs.Turns.{AreOut, Gives, IsEmpty};
+ghost use Rattle.mio_link.specs.Turns.{AreBelow, Gives, IsEmpty};
 
 use crate::ready::Ready;
 
@@ -53,7 +53,7 @@ impl Turns {
         ensures exact { Gives (has self.old.ready) self.old.cursor result }
         ensures cursor { IfSome result (λ place. self.new.cursor ≡ place + 1) }
         ensures ready { self.new.ready ≡ self.old.ready }
-        ensures few { AreOut (has self.old.ready) 320 }
+        ensures few { AreBelow 320 (has self.old.ready) }
     {
         let place = self.ready.next(self.cursor)?;
         self.cursor = place + 1;
