@@ -1,3 +1,2 @@
-pub mod NotingLemmas
 pub mod PlayableLemmas
 pub mod TurnLemmas

@@ -1,4 +1,4 @@
--- How much an answer of a link gives or takes, and when each of its faults may come.
+-- How much an answer of a link gives or takes, and when each of its faults and want of memory may come.
 use Rattle.std.specs.Prelude.{◌≡◌, ◌≢◌, ℕ, ◌<◌, ◌≤◌, List, [], Option, Some, None, Result, Ok, Err}
 use Rattle.plain_values.specs.Counts.{Rose, NeverFalls}
 use Rattle.wire_io.specs.declared.answers.Heard.{Heard}
@@ -43,3 +43,22 @@ WriteCause plan before after (took.Took count) = NeverFalls before after
 WriteCause plan before after took.Later = NeverFalls before after × IsPlanned (λ plan. plan.later) plan
 WriteCause plan before after took.Gone = Rose before after × IsPlanned (λ plan. plan.gone) plan
 WriteCause plan before after took.NoMemory = NeverFalls before after
+
+-- with want of memory the count of refusals rises, and with each other answer of `open`, `next` and the calls of the
+-- store it never falls
+unfoldable pub RefusalCause : {T : Type 0} → ℕ → ℕ → Result T NextFault → Type 0
+RefusalCause before after (Ok answer) = NeverFalls before after
+RefusalCause before after (Err Failed) = NeverFalls before after
+RefusalCause before after (Err NoMemory) = Rose before after
+
+-- the same of the answers of `write`
+unfoldable pub WriteRefusal : ℕ → ℕ → Took → Type 0
+WriteRefusal before after (took.Took count) = NeverFalls before after
+WriteRefusal before after took.Later = NeverFalls before after
+WriteRefusal before after took.Gone = NeverFalls before after
+WriteRefusal before after took.NoMemory = Rose before after
+
+-- and of those of `hold`, `release` and `hang_up`, whose one error is want of memory
+unfoldable pub NoteRefusal : {T E : Type 0} → ℕ → ℕ → Result T E → Type 0
+NoteRefusal before after (Ok answer) = NeverFalls before after
+NoteRefusal before after (Err want) = Rose before after

@@ -15,7 +15,7 @@ use Rattle.wire_io.specs.MemoryForms.{is_listed}
 use Rattle.wire_io.specs.link.Plan.{Plan}
 
 -- the journal and the plan, how many calls of `open`, `next` and of the store there were, and how many of `write`, and
--- the counts of faults and of lost connections
+-- the counts of faults, of lost connections and of calls for which there was no memory
 pub record LinkState : Type 0 where
   pub journal : List Item
   pub plan : Plan
@@ -23,11 +23,12 @@ pub record LinkState : Type 0 where
   pub writes : ℕ
   pub faults : ℕ
   pub lost : ℕ
+  pub refusals : ℕ
 
 -- a link that has done nothing yet
 abbrev pub fresh_link : List ScriptEvent → List ℕ → List ℕ → List ℕ → LinkState
 fresh_link events failing later gone =
-    record { journal = []; plan = record { to_come = events; failing = failing; later = later; gone = gone }; calls = 0; writes = 0; faults = 0; lost = 0 }
+    record { journal = []; plan = record { to_come = events; failing = failing; later = later; gone = gone }; calls = 0; writes = 0; faults = 0; lost = 0; refusals = 0 }
 
 -- no call is listed to take nothing now and to find its connection lost
 abbrev pub AreApart : List ℕ → List ℕ → Type 0
@@ -51,7 +52,7 @@ LinkOpens old address sessions (Ok answer) new = (is_listed old.calls old.plan.f
     × (new ≡ record (with_item old (OpenedAt address sessions true)) { calls = next_count old.calls })
 LinkOpens old address sessions (Err Failed) new = (is_listed old.calls old.plan.failing ≡ true)
     × (new ≡ record (with_item old (OpenedAt address sessions false)) { calls = next_count old.calls; faults = next_count old.faults })
-LinkOpens old address sessions (Err NoMemory) new = new ≡ record old { calls = next_count old.calls }
+LinkOpens old address sessions (Err NoMemory) new = new ≡ record old { calls = next_count old.calls; refusals = next_count old.refusals }
 
 -- so does `open_store`
 unfoldable pub LinkOpensStore : LinkState → List ℕ → Result (Unit {0}) NextFault → LinkState → Type 0
@@ -59,7 +60,7 @@ LinkOpensStore old name (Ok answer) new = (is_listed old.calls old.plan.failing 
     × (new ≡ record (with_item old (StoreOpened name true)) { calls = next_count old.calls })
 LinkOpensStore old name (Err Failed) new = (is_listed old.calls old.plan.failing ≡ true)
     × (new ≡ record (with_item old (StoreOpened name false)) { calls = next_count old.calls; faults = next_count old.faults })
-LinkOpensStore old name (Err NoMemory) new = new ≡ record old { calls = next_count old.calls }
+LinkOpensStore old name (Err NoMemory) new = new ≡ record old { calls = next_count old.calls; refusals = next_count old.refusals }
 
 -- a call of the open store fails exactly at a listed call, and then notes nothing; nor after want of memory
 unfoldable pub LinkStores : LinkState → Item → Result (Unit {0}) NextFault → LinkState → Type 0
@@ -67,7 +68,8 @@ LinkStores old item (Ok answer) new = (is_listed old.calls old.plan.failing ≡ 
     × (new ≡ record (with_item old item) { calls = next_count old.calls })
 LinkStores old item (Err Failed) new = (is_listed old.calls old.plan.failing ≡ true)
     × (new ≡ record old { calls = next_count old.calls; faults = next_count old.faults })
-LinkStores old item (Err NoMemory) new = (is_listed old.calls old.plan.failing ≡ false) × (new ≡ record old { calls = next_count old.calls })
+LinkStores old item (Err NoMemory) new = (is_listed old.calls old.plan.failing ≡ false)
+    × (new ≡ record old { calls = next_count old.calls; refusals = next_count old.refusals })
 
 -- so does `sync_store`, which notes nothing, and wants no memory
 unfoldable pub LinkSyncs : LinkState → Result (Unit {0}) NextFault → LinkState → Type 0
@@ -76,13 +78,14 @@ LinkSyncs old (Err Failed) new = (is_listed old.calls old.plan.failing ≡ true)
     × (new ≡ record old { calls = next_count old.calls; faults = next_count old.faults })
 LinkSyncs old (Err NoMemory) new = ⊥
 
--- `next` fails exactly at a listed call, and then nothing else changes; nor after want of memory
+-- `next` fails exactly at a listed call, and then nothing else changes; nor after want of memory, which is counted
 unfoldable pub LinkHears : {T : Type 0} → LinkState → Result T NextFault → LinkState → Type 0
 LinkHears old (Ok answer) new = (is_listed old.calls old.plan.failing ≡ false)
     × (new ≡ record old { journal = new.journal; plan = new.plan; calls = next_count old.calls })
 LinkHears old (Err Failed) new = (is_listed old.calls old.plan.failing ≡ true)
     × (new ≡ record old { calls = next_count old.calls; faults = next_count old.faults })
-LinkHears old (Err NoMemory) new = (is_listed old.calls old.plan.failing ≡ false) × (new ≡ record old { calls = next_count old.calls })
+LinkHears old (Err NoMemory) new = (is_listed old.calls old.plan.failing ≡ false)
+    × (new ≡ record old { calls = next_count old.calls; refusals = next_count old.refusals })
 
 -- a call of `write` gets Later or Gone exactly where the plan says so; any other takes the whole piece, or finds no
 -- memory
@@ -93,9 +96,9 @@ LinkWrites old conn octets took.Later new = (is_listed old.writes old.plan.later
     × (new ≡ record (with_item old (Later conn)) { writes = next_count old.writes })
 LinkWrites old conn octets took.Gone new = (is_listed old.writes old.plan.later ≡ false) × (is_listed old.writes old.plan.gone ≡ true)
     × (new ≡ record (with_item old (Gone conn)) { writes = next_count old.writes; lost = next_count old.lost })
-LinkWrites old conn octets took.NoMemory new = new ≡ record old { writes = next_count old.writes }
+LinkWrites old conn octets took.NoMemory new = new ≡ record old { writes = next_count old.writes; refusals = next_count old.refusals }
 
--- the item is noted and nothing else changes; nothing at all for want of memory
+-- the item is noted and nothing else changes; for want of memory the count of refusals alone does
 unfoldable pub LinkNotes : {T E : Type 0} → LinkState → Item → Result T E → LinkState → Type 0
 LinkNotes old item (Ok answer) new = new ≡ with_item old item
-LinkNotes old item (Err fault) new = new ≡ old
+LinkNotes old item (Err fault) new = new ≡ record old { refusals = next_count old.refusals }

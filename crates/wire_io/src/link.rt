@@ -2,15 +2,15 @@
 
 ghost use Rattle.std.specs.Prelude.{◌≡◌, ◌<◌, length, IfOk};
 ghost use Rattle.plain_values.specs.Counts.{NeverFalls};
-ghost use Rattle.wire_io.specs.Answers.{HeardFits, TookFits, LinkCause, WriteCause};
+ghost use Rattle.wire_io.specs.Answers.{HeardFits, TookFits, LinkCause, WriteCause, RefusalCause, WriteRefusal, NoteRefusal};
 ghost use Rattle.wire_io.specs.link.Telling.{OpenTells, StoreOpenTells, NextTells, TookTells, NoteTells};
 ghost use Rattle.wire_io.specs.Playing.{NextPlays};
 
 use crate::{Heard, Item, NextFault, NoMemory, Took};
 
 /// What gives the events of connections and takes octets for them. Where the link tells, `journal`
-/// is all that it did, and `plan` what it still has to give; `faults` counts its faults and `lost`
-/// the connections that it found lost.
+/// is all that it did, and `plan` what it still has to give; `faults` counts its faults, `lost` the
+/// connections that it found lost, and `refusals` the calls that it answered with want of memory.
 pub trait Link {
     ghost use Rattle.std.specs.Prelude.{ℕ, Option, List};
     ghost use Rattle.wire_io.specs.declared.journal.Item.{Item};
@@ -24,6 +24,8 @@ pub trait Link {
 
     ghost lost: { Self → ℕ };
 
+    ghost refusals: { Self → ℕ };
+
     /// Has connections ended that are idle, called before `open`: one whose peer sent nothing for so many
     /// seconds, and to which nothing is due, is ended, and one on hold that takes nothing for so long is
     /// lost; with 0 seconds, and where this is never called, none is. No clause says when a link does so:
@@ -32,7 +34,8 @@ pub trait Link {
         ensures tells { journal self.new ≡ journal self.old }
         ensures plan { plan self.new ≡ plan self.old }
         ensures faults { faults self.new ≡ faults self.old }
-        ensures lost { lost self.new ≡ lost self.old };
+        ensures lost { lost self.new ≡ lost self.old }
+        ensures refusals { refusals self.new ≡ refusals self.old };
 
     /// Prepares the address. With sessions above 0 the link is asked to stop once so many
     /// connections have ended; no clause says that it does. `Failed` is a fault, and is counted;
@@ -40,6 +43,7 @@ pub trait Link {
     fn open(&mut self, address: &str, sessions: u64) -> Result<(), NextFault>
         ensures tells { OpenTells (journal self.old) address.now sessions result (journal self.new) }
         ensures cause { LinkCause (plan self.old) (faults self.old) (faults self.new) result }
+        ensures refusals { RefusalCause (refusals self.old) (refusals self.new) result }
         // what stays
         ensures plan { plan self.new ≡ plan self.old }
         ensures lost { NeverFalls (lost self.old) (lost self.new) };
@@ -49,6 +53,7 @@ pub trait Link {
     fn open_store(&mut self, name: &str) -> Result<(), NextFault>
         ensures tells { StoreOpenTells (journal self.old) name.now result (journal self.new) }
         ensures cause { LinkCause (plan self.old) (faults self.old) (faults self.new) result }
+        ensures refusals { RefusalCause (refusals self.old) (refusals self.new) result }
         // what stays
         ensures plan { plan self.new ≡ plan self.old }
         ensures lost { NeverFalls (lost self.old) (lost self.new) };
@@ -58,6 +63,7 @@ pub trait Link {
     fn cut_store(&mut self, length: u64) -> Result<(), NextFault>
         ensures tells { NoteTells (journal self.old) (Item.StoreCut length) result (journal self.new) }
         ensures cause { LinkCause (plan self.old) (faults self.old) (faults self.new) result }
+        ensures refusals { RefusalCause (refusals self.old) (refusals self.new) result }
         // what stays
         ensures plan { plan self.new ≡ plan self.old }
         ensures lost { NeverFalls (lost self.old) (lost self.new) };
@@ -68,6 +74,7 @@ pub trait Link {
     fn store(&mut self, octets: &[u8]) -> Result<(), NextFault>
         ensures tells { NoteTells (journal self.old) (Item.Stored octets.now) result (journal self.new) }
         ensures cause { LinkCause (plan self.old) (faults self.old) (faults self.new) result }
+        ensures refusals { RefusalCause (refusals self.old) (refusals self.new) result }
         // what stays
         ensures plan { plan self.new ≡ plan self.old }
         ensures lost { NeverFalls (lost self.old) (lost self.new) };
@@ -78,6 +85,7 @@ pub trait Link {
     fn sync_store(&mut self) -> Result<(), NextFault>
         ensures tells { journal self.new ≡ journal self.old }
         ensures cause { LinkCause (plan self.old) (faults self.old) (faults self.new) result }
+        ensures refusals { RefusalCause (refusals self.old) (refusals self.new) result }
         // what stays
         ensures plan { plan self.new ≡ plan self.old }
         ensures lost { NeverFalls (lost self.old) (lost self.new) };
@@ -92,6 +100,7 @@ pub trait Link {
         ensures plays { NextPlays (journal self.old) (plan self.old) buf.new result (plan self.new) }
         // each refusal
         ensures cause { LinkCause (plan self.old) (faults self.old) (faults self.new) result }
+        ensures refusals { RefusalCause (refusals self.old) (refusals self.new) result }
         ensures lost { NeverFalls (lost self.old) (lost self.new) };
 
     /// Offers octets for the connection. `Gone` says that it was found lost, which the count of these
@@ -102,6 +111,7 @@ pub trait Link {
         ensures tells { TookTells (journal self.old) conn bytes.now result (journal self.new) }
         // each answer
         ensures cause { WriteCause (plan self.old) (lost self.old) (lost self.new) result }
+        ensures refusals { WriteRefusal (refusals self.old) (refusals self.new) result }
         // what stays
         ensures plan { plan self.new ≡ plan self.old }
         ensures faults { faults self.new ≡ faults self.old };
@@ -110,6 +120,7 @@ pub trait Link {
     /// `Ready` comes. After want of memory nothing was done.
     fn hold(&mut self, conn: u32) -> Result<(), NoMemory>
         ensures tells { NoteTells (journal self.old) (Item.Held conn) result (journal self.new) }
+        ensures refusals { NoteRefusal (refusals self.old) (refusals self.new) result }
         ensures plan { plan self.new ≡ plan self.old }
         ensures faults { faults self.new ≡ faults self.old }
         ensures lost { NeverFalls (lost self.old) (lost self.new) };
@@ -117,6 +128,7 @@ pub trait Link {
     /// Lets the octets of the connection come again. After want of memory nothing was done.
     fn release(&mut self, conn: u32) -> Result<(), NoMemory>
         ensures tells { NoteTells (journal self.old) (Item.Released conn) result (journal self.new) }
+        ensures refusals { NoteRefusal (refusals self.old) (refusals self.new) result }
         ensures plan { plan self.new ≡ plan self.old }
         ensures faults { faults self.new ≡ faults self.old }
         ensures lost { NeverFalls (lost self.old) (lost self.new) };
@@ -124,6 +136,7 @@ pub trait Link {
     /// Ends the connection. After want of memory nothing was done.
     fn hang_up(&mut self, conn: u32) -> Result<(), NoMemory>
         ensures tells { NoteTells (journal self.old) (Item.HungUp conn) result (journal self.new) }
+        ensures refusals { NoteRefusal (refusals self.old) (refusals self.new) result }
         ensures plan { plan self.new ≡ plan self.old }
         ensures faults { faults self.new ≡ faults self.old }
         ensures lost { NeverFalls (lost self.old) (lost self.new) };

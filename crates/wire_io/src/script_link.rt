@@ -5,7 +5,7 @@ ghost use Rattle.plain_values.specs.Counts.{NeverFalls, next_count};
 ghost use Rattle.script_text.specs.script.Script.{OpensOnce, AreFilled, IsScript, IsFirstBadLine};
 ghost use Rattle.script_text.specs.script.ScriptReading.{IsCause, script_of};
 ghost use Rattle.wire_io.specs.declared.journal.Item.{Item};
-ghost use Rattle.wire_io.specs.Answers.{HeardFits, TookFits, LinkCause, WriteCause};
+ghost use Rattle.wire_io.specs.Answers.{HeardFits, TookFits, LinkCause, WriteCause, RefusalCause, WriteRefusal, NoteRefusal};
 ghost use Rattle.wire_io.specs.Journal.{is_hung_up, opened_by, taken_of};
 ghost use Rattle.wire_io.specs.MemoryForms.{is_listed};
 ghost use Rattle.wire_io.specs.Playing.{NextPlays};
@@ -37,6 +37,7 @@ pub struct ScriptLink {
     writes: u64,
     faults: u64,
     lost: u64,
+    refusals: u64,
 }
 
 impl Model for ScriptLink {
@@ -44,7 +45,7 @@ impl Model for ScriptLink {
 
     ghost Value = { LinkState };
 
-    ghost view = { λ link. record { journal = link.journal; plan = record { to_come = link.script; failing = link.failing.items; later = link.later.items; gone = link.gone.items }; calls = link.calls; writes = link.writes; faults = link.faults; lost = link.lost } };
+    ghost view = { λ link. record { journal = link.journal; plan = record { to_come = link.script; failing = link.failing.items; later = link.later.items; gone = link.gone.items }; calls = link.calls; writes = link.writes; faults = link.faults; lost = link.lost; refusals = link.refusals } };
 
     ghost invariant = { λ link. IsPlayable link.journal link.script };
 }
@@ -92,6 +93,7 @@ impl ScriptLink {
             writes: 0,
             faults: 0,
             lost: 0,
+            refusals: 0,
         }
     }
 
@@ -178,64 +180,74 @@ impl Link for ScriptLink {
 
     ghost lost = { λ link. link.lost };
 
+    ghost refusals = { λ link. link.refusals };
+
     /// Does nothing: all that comes is planned.
     fn end_idle_after(&mut self, _seconds: u64)
         ensures tells { Some self.new.journal ≡ Some self.old.journal }
         ensures plan { Some self.new.plan ≡ Some self.old.plan }
         ensures faults { self.new.faults ≡ self.old.faults }
         ensures lost { self.new.lost ≡ self.old.lost }
+        ensures refusals { self.new.refusals ≡ self.old.refusals }
         ensures exact { self.new ≡ self.old }
     {}
 
-    #[tactic(auto, unfolding(crate::specs::link::Telling::OpenTells, crate::specs::Answers::LinkCause, crate::specs::Answers::IsPlanned, crate::specs::Scripted::LinkOpens))]
+    #[tactic(auto, unfolding(crate::specs::link::Telling::OpenTells, crate::specs::Answers::LinkCause, crate::specs::Answers::RefusalCause, crate::specs::Answers::IsPlanned, crate::specs::Scripted::LinkOpens))]
     /// Opens, or fails at the chosen calls.
     fn open(&mut self, address: &str, sessions: u64) -> Result<(), NextFault>
         ensures tells { OpenTells (Some self.old.journal) address.now sessions result (Some self.new.journal) }
         ensures cause { LinkCause (Some self.old.plan) self.old.faults self.new.faults result }
+        ensures refusals { RefusalCause self.old.refusals self.new.refusals result }
         ensures plan { Some self.new.plan ≡ Some self.old.plan }
         ensures lost { NeverFalls self.old.lost self.new.lost }
         ensures exact { LinkOpens self.old address.now sessions result self.new }
     {
         if self.fails() {
             if self.journal.open(address, sessions, false).is_err() {
+                self.refusals = raised(self.refusals);
                 return Err(NextFault::NoMemory);
             }
             self.faults = raised(self.faults);
             return Err(NextFault::Failed);
         }
         if self.journal.open(address, sessions, true).is_err() {
+            self.refusals = raised(self.refusals);
             return Err(NextFault::NoMemory);
         }
         Ok(())
     }
 
-    #[tactic(auto, unfolding(crate::specs::link::Telling::StoreOpenTells, crate::specs::Answers::LinkCause, crate::specs::Answers::IsPlanned, crate::specs::Scripted::LinkOpensStore))]
+    #[tactic(auto, unfolding(crate::specs::link::Telling::StoreOpenTells, crate::specs::Answers::LinkCause, crate::specs::Answers::RefusalCause, crate::specs::Answers::IsPlanned, crate::specs::Scripted::LinkOpensStore))]
     /// Notes the store as opened, or fails at the chosen calls. Nothing is written to any file.
     fn open_store(&mut self, name: &str) -> Result<(), NextFault>
         ensures tells { StoreOpenTells (Some self.old.journal) name.now result (Some self.new.journal) }
         ensures cause { LinkCause (Some self.old.plan) self.old.faults self.new.faults result }
+        ensures refusals { RefusalCause self.old.refusals self.new.refusals result }
         ensures plan { Some self.new.plan ≡ Some self.old.plan }
         ensures lost { NeverFalls self.old.lost self.new.lost }
         ensures exact { LinkOpensStore self.old name.now result self.new }
     {
         if self.fails() {
             if self.journal.open_store(name, false).is_err() {
+                self.refusals = raised(self.refusals);
                 return Err(NextFault::NoMemory);
             }
             self.faults = raised(self.faults);
             return Err(NextFault::Failed);
         }
         if self.journal.open_store(name, true).is_err() {
+            self.refusals = raised(self.refusals);
             return Err(NextFault::NoMemory);
         }
         Ok(())
     }
 
-    #[tactic(auto, unfolding(crate::specs::link::Telling::NoteTells, crate::specs::Answers::LinkCause, crate::specs::Answers::IsPlanned, crate::specs::Scripted::LinkStores))]
+    #[tactic(auto, unfolding(crate::specs::link::Telling::NoteTells, crate::specs::Answers::LinkCause, crate::specs::Answers::RefusalCause, crate::specs::Answers::IsPlanned, crate::specs::Scripted::LinkStores))]
     /// Notes the store as cut, or fails at the chosen calls. No file is cut.
     fn cut_store(&mut self, length: u64) -> Result<(), NextFault>
         ensures tells { NoteTells (Some self.old.journal) (Item.StoreCut length) result (Some self.new.journal) }
         ensures cause { LinkCause (Some self.old.plan) self.old.faults self.new.faults result }
+        ensures refusals { RefusalCause self.old.refusals self.new.refusals result }
         ensures plan { Some self.new.plan ≡ Some self.old.plan }
         ensures lost { NeverFalls self.old.lost self.new.lost }
         ensures exact { LinkStores self.old (Item.StoreCut length) result self.new }
@@ -245,16 +257,18 @@ impl Link for ScriptLink {
             return Err(NextFault::Failed);
         }
         if self.journal.cut_store(length).is_err() {
+            self.refusals = raised(self.refusals);
             return Err(NextFault::NoMemory);
         }
         Ok(())
     }
 
-    #[tactic(auto, unfolding(crate::specs::link::Telling::NoteTells, crate::specs::Answers::LinkCause, crate::specs::Answers::IsPlanned, crate::specs::Scripted::LinkStores))]
+    #[tactic(auto, unfolding(crate::specs::link::Telling::NoteTells, crate::specs::Answers::LinkCause, crate::specs::Answers::RefusalCause, crate::specs::Answers::IsPlanned, crate::specs::Scripted::LinkStores))]
     /// Notes the octets as stored, or fails at the chosen calls. Nothing is written to any file.
     fn store(&mut self, octets: &[u8]) -> Result<(), NextFault>
         ensures tells { NoteTells (Some self.old.journal) (Item.Stored octets.now) result (Some self.new.journal) }
         ensures cause { LinkCause (Some self.old.plan) self.old.faults self.new.faults result }
+        ensures refusals { RefusalCause self.old.refusals self.new.refusals result }
         ensures plan { Some self.new.plan ≡ Some self.old.plan }
         ensures lost { NeverFalls self.old.lost self.new.lost }
         ensures exact { LinkStores self.old (Item.Stored octets.now) result self.new }
@@ -264,16 +278,18 @@ impl Link for ScriptLink {
             return Err(NextFault::Failed);
         }
         if self.journal.note(Note::Stored, 0, octets).is_err() {
+            self.refusals = raised(self.refusals);
             return Err(NextFault::NoMemory);
         }
         Ok(())
     }
 
-    #[tactic(auto, unfolding(crate::specs::Answers::LinkCause, crate::specs::Answers::IsPlanned, crate::specs::Scripted::LinkSyncs))]
+    #[tactic(auto, unfolding(crate::specs::Answers::LinkCause, crate::specs::Answers::RefusalCause, crate::specs::Answers::IsPlanned, crate::specs::Scripted::LinkSyncs))]
     /// Does nothing, or fails at the chosen calls.
     fn sync_store(&mut self) -> Result<(), NextFault>
         ensures tells { Some self.new.journal ≡ Some self.old.journal }
         ensures cause { LinkCause (Some self.old.plan) self.old.faults self.new.faults result }
+        ensures refusals { RefusalCause self.old.refusals self.new.refusals result }
         ensures plan { Some self.new.plan ≡ Some self.old.plan }
         ensures lost { NeverFalls self.old.lost self.new.lost }
         ensures exact { LinkSyncs self.old result self.new }
@@ -285,7 +301,7 @@ impl Link for ScriptLink {
         Ok(())
     }
 
-    #[tactic(auto, unfolding(crate::specs::link::Telling::NextTells, crate::specs::Playing::NextPlays, crate::specs::Answers::LinkCause, crate::specs::Answers::IsPlanned, crate::specs::Scripted::LinkHears))]
+    #[tactic(auto, unfolding(crate::specs::link::Telling::NextTells, crate::specs::Playing::NextPlays, crate::specs::Answers::LinkCause, crate::specs::Answers::RefusalCause, crate::specs::Answers::IsPlanned, crate::specs::Scripted::LinkHears))]
     /// Gives the next event of the script, or fails at the chosen calls.
     fn next(&mut self, buf: &mut [u8]) -> Result<Heard, NextFault>
         requires { 0 < length buf.old }
@@ -293,6 +309,7 @@ impl Link for ScriptLink {
         ensures tells { NextTells (Some self.old.journal) buf.new result (Some self.new.journal) }
         ensures plays { NextPlays (Some self.old.journal) (Some self.old.plan) buf.new result (Some self.new.plan) }
         ensures cause { LinkCause (Some self.old.plan) self.old.faults self.new.faults result }
+        ensures refusals { RefusalCause self.old.refusals self.new.refusals result }
         ensures lost { NeverFalls self.old.lost self.new.lost }
         ensures exact { LinkHears self.old result self.new }
     {
@@ -301,18 +318,20 @@ impl Link for ScriptLink {
             return Err(NextFault::Failed);
         }
         let Ok(heard) = self.play(buf) else {
+            self.refusals = raised(self.refusals);
             return Err(NextFault::NoMemory);
         };
         Ok(heard)
     }
 
-    #[tactic(auto, unfolding(crate::specs::link::Telling::TookTells, crate::specs::Answers::WriteCause, crate::specs::Answers::IsPlanned, crate::specs::Scripted::LinkWrites))]
+    #[tactic(auto, unfolding(crate::specs::link::Telling::TookTells, crate::specs::Answers::WriteCause, crate::specs::Answers::WriteRefusal, crate::specs::Answers::IsPlanned, crate::specs::Scripted::LinkWrites))]
     /// Takes the piece whole, or answers Later or Gone at the chosen calls.
     fn write(&mut self, conn: u32, bytes: &[u8]) -> Took
         requires { 0 < length bytes.now }
         ensures fits { TookFits (length bytes.now) result }
         ensures tells { TookTells (Some self.old.journal) conn bytes.now result (Some self.new.journal) }
         ensures cause { WriteCause (Some self.old.plan) self.old.lost self.new.lost result }
+        ensures refusals { WriteRefusal self.old.refusals self.new.refusals result }
         ensures plan { Some self.new.plan ≡ Some self.old.plan }
         ensures faults { self.new.faults ≡ self.old.faults }
         ensures exact { LinkWrites self.old conn bytes.now result self.new }
@@ -321,50 +340,71 @@ impl Link for ScriptLink {
         self.writes = raised(call);
         if self.later.contains(&call) {
             if self.journal.note(Note::Later, conn, &[]).is_err() {
+                self.refusals = raised(self.refusals);
                 return Took::NoMemory;
             }
             return Took::Later;
         }
         if self.gone.contains(&call) {
             if self.journal.note(Note::Gone, conn, &[]).is_err() {
+                self.refusals = raised(self.refusals);
                 return Took::NoMemory;
             }
             self.lost = raised(self.lost);
             return Took::Gone;
         }
         if self.journal.take(conn, bytes).is_err() {
+            self.refusals = raised(self.refusals);
             return Took::NoMemory;
         }
         Took::Took(bytes.len())
     }
 
+    #[tactic(auto, unfolding(crate::specs::link::Telling::NoteTells, crate::specs::Answers::NoteRefusal, crate::specs::Scripted::LinkNotes))]
     fn hold(&mut self, conn: u32) -> Result<(), NoMemory>
         ensures tells { NoteTells (Some self.old.journal) (Item.Held conn) result (Some self.new.journal) }
+        ensures refusals { NoteRefusal self.old.refusals self.new.refusals result }
         ensures plan { Some self.new.plan ≡ Some self.old.plan }
         ensures faults { self.new.faults ≡ self.old.faults }
         ensures lost { NeverFalls self.old.lost self.new.lost }
         ensures exact { LinkNotes self.old (Item.Held conn) result self.new }
     {
-        self.journal.hold(conn)
+        if self.journal.hold(conn).is_err() {
+            self.refusals = raised(self.refusals);
+            return Err(AllocError);
+        }
+        Ok(())
     }
 
+    #[tactic(auto, unfolding(crate::specs::link::Telling::NoteTells, crate::specs::Answers::NoteRefusal, crate::specs::Scripted::LinkNotes))]
     fn release(&mut self, conn: u32) -> Result<(), NoMemory>
         ensures tells { NoteTells (Some self.old.journal) (Item.Released conn) result (Some self.new.journal) }
+        ensures refusals { NoteRefusal self.old.refusals self.new.refusals result }
         ensures plan { Some self.new.plan ≡ Some self.old.plan }
         ensures faults { self.new.faults ≡ self.old.faults }
         ensures lost { NeverFalls self.old.lost self.new.lost }
         ensures exact { LinkNotes self.old (Item.Released conn) result self.new }
     {
-        self.journal.release(conn)
+        if self.journal.release(conn).is_err() {
+            self.refusals = raised(self.refusals);
+            return Err(AllocError);
+        }
+        Ok(())
     }
 
+    #[tactic(auto, unfolding(crate::specs::link::Telling::NoteTells, crate::specs::Answers::NoteRefusal, crate::specs::Scripted::LinkNotes))]
     fn hang_up(&mut self, conn: u32) -> Result<(), NoMemory>
         ensures tells { NoteTells (Some self.old.journal) (Item.HungUp conn) result (Some self.new.journal) }
+        ensures refusals { NoteRefusal self.old.refusals self.new.refusals result }
         ensures plan { Some self.new.plan ≡ Some self.old.plan }
         ensures faults { self.new.faults ≡ self.old.faults }
         ensures lost { NeverFalls self.old.lost self.new.lost }
         ensures exact { LinkNotes self.old (Item.HungUp conn) result self.new }
     {
-        self.journal.hang_up(conn)
+        if self.journal.hang_up(conn).is_err() {
+            self.refusals = raised(self.refusals);
+            return Err(AllocError);
+        }
+        Ok(())
     }
 }

@@ -5,14 +5,15 @@ use Rattle.plain_values.proofs.Theorems.{Rose-never_falls}
 use Rattle.script_text.specs.declared.event.ScriptEvent.{ScriptEvent}
 use Rattle.script_text.specs.declared.event.ScriptEvent.TheVariants as script
 use Rattle.wire_io.specs.declared.answers.Heard.{Heard as Answer}
-use Rattle.wire_io.specs.declared.answers.NextFault.TheVariants.{NoMemory}
+use Rattle.wire_io.specs.declared.answers.NextFault.{NextFault}
+use Rattle.wire_io.specs.declared.answers.NextFault.TheVariants.{Failed, NoMemory}
 use Rattle.wire_io.specs.declared.answers.Took.{Took}
 use Rattle.wire_io.specs.declared.answers.Took.TheVariants as took
 use Rattle.wire_io.specs.declared.journal.Event.{Event}
 use Rattle.wire_io.specs.declared.journal.Event.TheVariants.{Opened, Bytes, Ended, Ready, Idle, Stop}
 use Rattle.wire_io.specs.declared.journal.Item.{Item}
 use Rattle.wire_io.specs.declared.journal.Item.TheVariants.{Heard, OpenedAt, Taken, Later, Gone, Held, Released, HungUp, StoreOpened, StoreCut, Stored}
-use Rattle.wire_io.specs.Answers.{IsPlanned, LinkCause, WriteCause}
+use Rattle.wire_io.specs.Answers.{IsPlanned, LinkCause, WriteCause, RefusalCause, WriteRefusal, NoteRefusal}
 use Rattle.wire_io.specs.Journal.{heard}
 use Rattle.wire_io.specs.Pieces.{Plays}
 use Rattle.wire_io.specs.link.Plan.{Plan}
@@ -157,3 +158,35 @@ WriteCause-never_later plan before after none cause = cause.1 none
 pub WriteCause-never_gone : (plan : Plan) (before after : ℕ) → plan.gone ≡ [] → WriteCause (Some plan) before after took.Gone → ⊥
 unfolding WriteCause IsPlanned
 WriteCause-never_gone plan before after none cause = cause.1 none
+
+-- the count of refusals never falls, whatever the answer
+pub RefusalCause-never_falls : {T : Type 0} (before after : ℕ) (result : Result T NextFault) → RefusalCause before after result → NeverFalls before after
+unfolding RefusalCause
+RefusalCause-never_falls before after (Ok answer) cause = cause
+RefusalCause-never_falls before after (Err Failed) cause = cause
+RefusalCause-never_falls before after (Err NoMemory) cause = Rose-never_falls cause
+
+pub WriteRefusal-never_falls : (before after : ℕ) (answer : Took) → WriteRefusal before after answer → NeverFalls before after
+unfolding WriteRefusal
+WriteRefusal-never_falls before after (took.Took count) cause = cause
+WriteRefusal-never_falls before after took.Later cause = cause
+WriteRefusal-never_falls before after took.Gone cause = cause
+WriteRefusal-never_falls before after took.NoMemory cause = Rose-never_falls cause
+
+pub NoteRefusal-never_falls : {T E : Type 0} (before after : ℕ) (result : Result T E) → NoteRefusal before after result → NeverFalls before after
+unfolding NoteRefusal
+NoteRefusal-never_falls before after (Ok answer) cause = cause
+NoteRefusal-never_falls before after (Err want) cause = Rose-never_falls cause
+
+-- and it rises with want of memory
+pub RefusalCause-starved : (T : Type 0) (before after : ℕ) → RefusalCause {T = T} before after (Err NoMemory) → Rose before after
+unfolding RefusalCause
+RefusalCause-starved T before after cause = cause
+
+pub WriteRefusal-starved : (before after : ℕ) → WriteRefusal before after took.NoMemory → Rose before after
+unfolding WriteRefusal
+WriteRefusal-starved before after cause = cause
+
+pub NoteRefusal-starved : (T : Type 0) {E : Type 0} (before after : ℕ) (want : E) → NoteRefusal {T = T} before after (Err want) → Rose before after
+unfolding NoteRefusal
+NoteRefusal-starved T before after want cause = cause

@@ -10,7 +10,7 @@ invariant_of-self-then-fails c =
     IsPlayable-noted c.open.result (OpenedAt c.args.address.now c.args.sessions false) tt c.open.ensures.ok c.open.ensures.err c.self.invariant
 
 -- the opening was noted
-pub invariant_of-self-2 : goal.invariant_of-self-2
+pub invariant_of-self-else-is_err-2 : goal.invariant_of-self-else-is_err-2
 unfolding IsNote
-invariant_of-self-2 c =
+invariant_of-self-else-is_err-2 c =
     IsPlayable-noted c.open-2.result (OpenedAt c.args.address.now c.args.sessions true) tt c.open-2.ensures.ok c.open-2.ensures.err c.self.invariant

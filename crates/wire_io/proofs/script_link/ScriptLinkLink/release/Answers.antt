@@ -1,16 +1,8 @@
-use Rattle.std.proofs.Common.{ap}
 use Rattle.wire_io.specs.declared.journal.Item.TheVariants.{Released}
-use Rattle.wire_io.proofs.script_link.NotingLemmas.{NoteTells-noted, LinkNotes-noted}
 use Rattle.wire_io.proofs.script_link.PlayableLemmas.{IsNote, IsPlayable-noted}
 use Rattle.wire_io.proofs.script_link.ScriptLinkLink.release.Goals as goal
 
--- the item was noted, or nothing was
-pub invariant_of-self : goal.invariant_of-self
+-- the item was noted
+pub invariant_of-self-else-is_err : goal.invariant_of-self-else-is_err
 unfolding IsNote
-invariant_of-self c = IsPlayable-noted c.release.result (Released c.args.conn) tt c.release.ensures.ok c.release.ensures.err c.self.invariant
-
-pub returns-clause-tells : goal.returns-clause-tells
-returns-clause-tells c = NoteTells-noted c.release.new.self _ _ (ap (λ link. link.journal) c.self.view_is) c.release.ensures.ok c.release.ensures.err
-
-pub returns-clause-exact : goal.returns-clause-exact
-returns-clause-exact c = LinkNotes-noted c.release.new.self _ _ c.self.view_is c.release.ensures.ok c.release.ensures.err
+invariant_of-self-else-is_err c = IsPlayable-noted c.release.result (Released c.args.conn) tt c.release.ensures.ok c.release.ensures.err c.self.invariant

@@ -3,6 +3,6 @@ use Rattle.wire_io.proofs.script_link.PlayableLemmas.{IsNote, IsPlayable-noted}
 use Rattle.wire_io.proofs.script_link.ScriptLinkLink.store.Goals as goal
 
 -- the octets were noted
-pub invariant_of-self-2 : goal.invariant_of-self-2
+pub invariant_of-self-else-is_err : goal.invariant_of-self-else-is_err
 unfolding IsNote
-invariant_of-self-2 c = IsPlayable-noted c.note.result (Stored c.args.octets.now) tt c.note.ensures.ok c.note.ensures.err c.self.invariant
+invariant_of-self-else-is_err c = IsPlayable-noted c.note.result (Stored c.args.octets.now) tt c.note.ensures.ok c.note.ensures.err c.self.invariant
