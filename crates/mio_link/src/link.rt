@@ -3,7 +3,7 @@
 ghost use Rattle.std.specs.Prelude.{◌≡◌, ◌<◌, length, true, IfOk};
 ghost use Rattle.wire_io.specs.Answers.{TookFits};
 ghost use Rattle.mio_link.specs.Store.{awaits_disk};
-ghost use Rattle.mio_link.specs.SystemLink.{link_faults, lost_connections};
+ghost use Rattle.mio_link.specs.SystemLink.{link_faults, lost_connections, refused_calls};
 
 use crate::sockets::Sockets;
 use crate::store::Store;
@@ -29,12 +29,13 @@ pub struct MioLink<R> {
     store: Store,
     faults: u64,
     lost: u64,
+    refusals: u64,
 }
 
 impl<R: Net + Drop> MioLink<R> {
-    /// A link over the runtime, which isn't open yet and had no fault. Its tables are made here.
+    /// A link over the runtime, which isn't open yet, had no fault and refused nothing. Its tables are made here.
     pub fn new(rt: R, alloc: Global) -> Result<MioLink<R>, NoMemory>
-        ensures fresh { IfOk result (λ link. (link_faults link ≡ 0) × (lost_connections link ≡ 0)) }
+        ensures fresh { IfOk result (λ link. (link_faults link ≡ 0) × (lost_connections link ≡ 0) × (refused_calls link ≡ 0)) }
     {
         Ok(MioLink {
             rt,
@@ -42,6 +43,7 @@ impl<R: Net + Drop> MioLink<R> {
             store: Store::Unopened,
             faults: 0,
             lost: 0,
+            refusals: 0,
         })
     }
 }
@@ -53,7 +55,7 @@ impl<R> MioLink<R> {
         ensures later { awaits_disk self.old.store ≡ true → result ≡ Took.Later }
         ensures fits { TookFits (length bytes.now) result }
         // what stays
-        ensures counts { (self.new.faults ≡ self.old.faults) × (self.new.lost ≡ self.old.lost) }
+        ensures counts { (self.new.faults ≡ self.old.faults) × (self.new.lost ≡ self.old.lost) × (self.new.refusals ≡ self.old.refusals) }
         ensures store { self.new.store ≡ self.old.store }
     {
         if self.store.awaits_disk() {
@@ -75,17 +77,22 @@ impl<R: Net + Clock + Files<File = File>> Link for MioLink<R> {
 
     ghost lost = { λ link. link.lost };
 
+    ghost refusals = { λ link. link.refusals };
+
     /// The clock is the runtime's; where it can't be read no connection is idle.
     fn end_idle_after(&mut self, seconds: u64) {
         self.sockets.end_idle_after(seconds);
     }
 
     /// Listens at the address, an IP address and a port.
-    #[tactic(auto, unfolding(wire_io::specs::link::Telling::OpenTells, wire_io::specs::Answers::LinkCause, wire_io::specs::Answers::IsPlanned))]
+    #[tactic(auto, unfolding(wire_io::specs::link::Telling::OpenTells, wire_io::specs::Answers::LinkCause, wire_io::specs::Answers::RefusalCause, wire_io::specs::Answers::IsPlanned))]
     fn open(&mut self, address: &str, sessions: u64) -> Result<(), NextFault> {
         match self.sockets.open(&self.rt, address, sessions) {
             Ok(()) => Ok(()),
-            Err(error) if error.kind() == ErrorKind::OutOfMemory => Err(NextFault::NoMemory),
+            Err(error) if error.kind() == ErrorKind::OutOfMemory => {
+                self.refusals = raised(self.refusals);
+                Err(NextFault::NoMemory)
+            }
             Err(_) => {
                 self.faults = raised(self.faults);
                 Err(NextFault::Failed)
@@ -97,11 +104,14 @@ impl<R: Net + Clock + Files<File = File>> Link for MioLink<R> {
     /// (mode 0600), locks it until the link is dropped, and has it and its folder on the disk. `Failed` comes
     /// besides where another process has it locked, where a store was opened before, and always after a fault
     /// of the store.
-    #[tactic(auto, unfolding(wire_io::specs::link::Telling::StoreOpenTells, wire_io::specs::Answers::LinkCause, wire_io::specs::Answers::IsPlanned))]
+    #[tactic(auto, unfolding(wire_io::specs::link::Telling::StoreOpenTells, wire_io::specs::Answers::LinkCause, wire_io::specs::Answers::RefusalCause, wire_io::specs::Answers::IsPlanned))]
     fn open_store(&mut self, name: &str) -> Result<(), NextFault> {
         match self.store.open(&self.rt, name) {
             Ok(()) => Ok(()),
-            Err(error) if error.kind() == ErrorKind::OutOfMemory => Err(NextFault::NoMemory),
+            Err(error) if error.kind() == ErrorKind::OutOfMemory => {
+                self.refusals = raised(self.refusals);
+                Err(NextFault::NoMemory)
+            }
             Err(_) => {
                 self.faults = raised(self.faults);
                 Err(NextFault::Failed)
@@ -112,7 +122,7 @@ impl<R: Net + Clock + Files<File = File>> Link for MioLink<R> {
     /// Cuts the file, and waits until the disk has it. `Failed` comes besides where it has fewer octets than
     /// that, and where no store is open. After a fault nothing is written any more, and every later call of
     /// the store is a fault.
-    #[tactic(auto, unfolding(wire_io::specs::link::Telling::NoteTells, wire_io::specs::Answers::LinkCause, wire_io::specs::Answers::IsPlanned))]
+    #[tactic(auto, unfolding(wire_io::specs::link::Telling::NoteTells, wire_io::specs::Answers::LinkCause, wire_io::specs::Answers::RefusalCause, wire_io::specs::Answers::IsPlanned))]
     fn cut_store(&mut self, length: u64) -> Result<(), NextFault> {
         if self.store.cut(length).is_ok() {
             return Ok(());
@@ -124,7 +134,7 @@ impl<R: Net + Clock + Files<File = File>> Link for MioLink<R> {
     /// Appends the octets to the file; the disk has them once `sync_store` has waited for it. Want of memory
     /// of the system is `Failed` too, since a front of the octets may be there. After a fault nothing is
     /// written any more, and every later call of the store is a fault.
-    #[tactic(auto, unfolding(wire_io::specs::link::Telling::NoteTells, wire_io::specs::Answers::LinkCause, wire_io::specs::Answers::IsPlanned))]
+    #[tactic(auto, unfolding(wire_io::specs::link::Telling::NoteTells, wire_io::specs::Answers::LinkCause, wire_io::specs::Answers::RefusalCause, wire_io::specs::Answers::IsPlanned))]
     fn store(&mut self, octets: &[u8]) -> Result<(), NextFault> {
         if self.store.append(octets).is_ok() {
             return Ok(());
@@ -136,7 +146,7 @@ impl<R: Net + Clock + Files<File = File>> Link for MioLink<R> {
     /// Where octets were stored since the last wait for the disk, waits until it has them, and then lets the
     /// connections go for which octets were put off. The wait is put off while `next` may give an event at
     /// once, up to 256 times.
-    #[tactic(auto, unfolding(wire_io::specs::Answers::LinkCause, wire_io::specs::Answers::IsPlanned))]
+    #[tactic(auto, unfolding(wire_io::specs::Answers::LinkCause, wire_io::specs::Answers::RefusalCause, wire_io::specs::Answers::IsPlanned))]
     fn sync_store(&mut self) -> Result<(), NextFault> {
         if !self.store.awaits_disk() || (self.sockets.have_some() && self.store.put_off()) {
             return Ok(());
@@ -151,7 +161,7 @@ impl<R: Net + Clock + Files<File = File>> Link for MioLink<R> {
 
     /// Waits for the next event; Stop once as many connections ended as there were to be sessions. While the
     /// disk is waited for, Idle comes at once where there is no event.
-    #[tactic(auto, unfolding(wire_io::specs::link::Telling::NextTells, wire_io::specs::Playing::NextPlays, wire_io::specs::Answers::LinkCause, wire_io::specs::Answers::IsPlanned))]
+    #[tactic(auto, unfolding(wire_io::specs::link::Telling::NextTells, wire_io::specs::Playing::NextPlays, wire_io::specs::Answers::LinkCause, wire_io::specs::Answers::RefusalCause, wire_io::specs::Answers::IsPlanned))]
     fn next(&mut self, buf: &mut [u8]) -> Result<Heard, NextFault> {
         if self.sockets.are_done() {
             return Ok(Heard::Stop);
@@ -159,7 +169,10 @@ impl<R: Net + Clock + Files<File = File>> Link for MioLink<R> {
         let may_wait = !self.store.awaits_disk();
         match self.sockets.next(&self.rt, may_wait, buf) {
             Ok(heard) => Ok(heard),
-            Err(error) if error.kind() == ErrorKind::OutOfMemory => Err(NextFault::NoMemory),
+            Err(error) if error.kind() == ErrorKind::OutOfMemory => {
+                self.refusals = raised(self.refusals);
+                Err(NextFault::NoMemory)
+            }
             Err(_) => {
                 self.faults = raised(self.faults);
                 Err(NextFault::Failed)
@@ -170,28 +183,30 @@ impl<R: Net + Clock + Files<File = File>> Link for MioLink<R> {
     /// Offers octets; a connection that was reset, or whose peer takes no more, is lost. Until the disk has
     /// all that was stored none are taken, and after a fault of the store none any more: Later then, and once
     /// the disk has it Ready, where the connection is on hold.
-    #[tactic(auto, unfolding(wire_io::specs::link::Telling::TookTells, wire_io::specs::Answers::WriteCause, wire_io::specs::Answers::IsPlanned))]
+    #[tactic(auto, unfolding(wire_io::specs::link::Telling::TookTells, wire_io::specs::Answers::WriteCause, wire_io::specs::Answers::WriteRefusal, wire_io::specs::Answers::IsPlanned))]
     fn write(&mut self, conn: u32, bytes: &[u8]) -> Took {
         let took = self.offer(conn, bytes);
-        if took == Took::Gone {
-            self.lost = raised(self.lost);
+        match took {
+            Took::Gone => self.lost = raised(self.lost),
+            Took::NoMemory => self.refusals = raised(self.refusals),
+            _ => {}
         }
         took
     }
 
-    #[tactic(auto, unfolding(wire_io::specs::link::Telling::NoteTells))]
+    #[tactic(auto, unfolding(wire_io::specs::link::Telling::NoteTells, wire_io::specs::Answers::NoteRefusal))]
     fn hold(&mut self, conn: u32) -> Result<(), NoMemory> {
         self.sockets.set_on_hold(conn, true);
         Ok(())
     }
 
-    #[tactic(auto, unfolding(wire_io::specs::link::Telling::NoteTells))]
+    #[tactic(auto, unfolding(wire_io::specs::link::Telling::NoteTells, wire_io::specs::Answers::NoteRefusal))]
     fn release(&mut self, conn: u32) -> Result<(), NoMemory> {
         self.sockets.set_on_hold(conn, false);
         Ok(())
     }
 
-    #[tactic(auto, unfolding(wire_io::specs::link::Telling::NoteTells))]
+    #[tactic(auto, unfolding(wire_io::specs::link::Telling::NoteTells, wire_io::specs::Answers::NoteRefusal))]
     fn hang_up(&mut self, conn: u32) -> Result<(), NoMemory> {
         self.sockets.hang_up(conn);
         Ok(())
