@@ -5,6 +5,7 @@ pub mod Seeing
 pub mod Choices
 pub mod Rooting
 pub mod Sending
+pub mod Writing
 pub mod Candidates
 pub mod Paging
 -- the words of crates below, handed on

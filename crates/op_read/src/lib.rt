@@ -11,6 +11,7 @@ mod searching;
 mod seen;
 mod selecting;
 mod sending;
+mod writing;
 
 pub use acdf_filters;
 pub use acdf_filters::aci_item;

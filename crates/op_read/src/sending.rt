@@ -13,9 +13,10 @@ ghost use Rattle.op_read.specs.Seeing.{row_in, rows_at};
 ghost use Rattle.op_read.specs.Sending.{shown_at, shown_among, entry_octets, Goes, IsSent, ended_by};
 
 use crate::candidates::Candidates;
-use crate::choosing::{Selection, sent_entry};
+use crate::choosing::Selection;
 use crate::seen::Seen;
 use crate::selecting::{is_found, is_seen};
+use crate::writing::put_entry;
 use dir_tree::dn_names::Dn;
 use dir_tree::{EntryNo, NoMemory};
 use directory::{Asking, Dir, discloses, no_such_object, result_of};
@@ -68,22 +69,6 @@ pub(crate) fn put_done(id: u32, ended: LdapResult, out: &mut Vec<u8>) -> Result<
     ensures kept { Extends out.old.items out.new.items }
 {
     put_reply(out, id, &Reply::Done(ended))
-}
-
-// Appends the entry. After the error, want of memory, `out` is as before.
-fn put_entry<D: Dir>(
-    alloc: Global,
-    search: &Search<'_>,
-    seen: &Seen<'_, D>,
-    out: &mut Vec<u8>,
-) -> Result<(), NoMemory>
-    ensures ok { OnOk result (out.new.items ≡ out.old.items
-        ++ entry_octets search.now.id search.now.request.now
-        (row_in (D.rows seen.now.dir.now) seen.now.who.now seen.now.entry.now)) }
-    ensures kept { Extends out.old.items out.new.items }
-{
-    let reply = sent_entry(alloc, seen, search.selection)?;
-    put_reply(out, search.id, &reply)
 }
 
 /// Whether the entry is selected, of those in the scope.

@@ -1,15 +1,12 @@
--- What of an entry is sent, text by text, value by value and attribute by attribute.
-use Rattle.std.proofs.Common.{◌≡◌, inl, inr, ℕ, ◌<◌, Bool, false, List, [], ◌∷◌, refl, ap, ◌∙◌, map, filter, length, arith}
+-- What of an entry is chosen, text by text and attribute by attribute.
+use Rattle.std.proofs.Common.{◌≡◌, inl, inr, ℕ, ◌<◌, Bool, false, List, [], ◌∷◌, refl, ap, map, filter, length, arith}
 use Rattle.std.specs.Prelude.{flat_map, if◌then◌else◌}
 use Rattle.std.specs.List.{list_any}
 use Rattle.std.proofs.lemmas.Bool.{cases_Bool}
-use Rattle.dir_tree.specs.dn_names.Printing.{print_name}
 use Rattle.acdf_filters.specs.aci_item.declared.permission.Permission.TheVariants.{Read}
 use Rattle.acdf_filters.specs.Asking.{Kind}
-use Rattle.ldap_msg.specs.declared.kinds.KindValues.{KindValues}
-use Rattle.ldap_msg.specs.declared.kinds.Reply.TheVariants as reply
 use Rattle.page_core.specs.read_model.Views.{Row}
-use Rattle.page_core.specs.read_model.Choosing.{is_chosen_by, is_chosen, sent_attribute, sent_attributes, sent_entry}
+use Rattle.page_core.specs.read_model.Choosing.{is_chosen_by, is_chosen, sent_attribute, sent_attributes}
 use Rattle.op_read.specs.declared.choosing.Choice.{Choice}
 use Rattle.op_read.specs.Choices.{chooses, sent_of}
 
@@ -42,10 +39,3 @@ unfolding sent_attributes
 sent-attributes choices texts kinds_only row same =
     attributes-one (λ attribute. list_any (chooses attribute.kind) choices) (λ attribute. is_chosen texts attribute.kind) (λ attribute. row.allows (Kind attribute.kind) Read)
     (sent_attribute kinds_only row) (λ attribute. same attribute.kind) row.entry.attributes
-
-pub sent-entry : (choices : List Choice) (texts : List (List ℕ)) (kinds_only : Bool) (row : Row) (name : List ℕ) (sent : List KindValues) → ((kind : ℕ) → list_any (chooses kind) choices ≡ is_chosen texts kind) → name ≡ print_name row.entry.name → sent ≡ flat_map (sent_of choices kinds_only row) row.entry.attributes
-    → reply.Entry name sent ≡ sent_entry texts kinds_only row
-unfolding sent_entry
-sent-entry choices texts kinds_only row name sent same named whole =
-    ap (λ name. reply.Entry name sent) named
-    ∙ ap (λ (sent : List KindValues). reply.Entry (print_name row.entry.name) sent) (whole ∙ sent-attributes choices texts kinds_only row same)
