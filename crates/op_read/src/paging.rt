@@ -23,11 +23,11 @@ use crate::choosing::{Selection, read_choices};
 use crate::searching::{Asked, put_hidden, put_known, put_root_replies};
 use crate::seen::Seen;
 use crate::selecting::{walk_after, walk_from};
-use crate::sending::{Found, Search, is_shown, put_done, put_found};
+use crate::sending::{Found, Search, discloses_at, is_shown, put_done, put_found};
 use acdf_filters::Requester;
 use dir_tree::dn_names::Dn;
 use dir_tree::{EntryNo, NoMemory};
-use directory::{Asking, Dir, discloses, no_such_object, printed, read_named, result_of};
+use directory::{Asking, Dir, no_such_object, printed, read_named, result_of};
 use ldap_msg::plain_values::Octets;
 use ldap_msg::{ResultCode, SearchRequest};
 use page_core::read_model::filter_match::prepare_filter;
@@ -112,7 +112,7 @@ fn is_done<D: Dir>(asking: &Asking<'_, D>, search: &Search<'_>, base: &Dn, numbe
         (selected (view_in (D.rows asking.now.dir.now) asking.now.who.now) search.now.request.now
         search.now.subentries base.now) base.now }
 {
-    discloses(asking, base) || is_any_shown(asking, search, number)
+    discloses_at(asking, number) || is_any_shown(asking, search, number)
 }
 
 // Appends how a page ends behind whose name no entry is.

@@ -83,7 +83,7 @@ fn put_selected<D: Dir>(
     ensures kept { Extends out.old.items out.new.items }
 {
     let found = put_scope(alloc, asking, search, number, out)?;
-    let ended = ended_by(alloc, asking, base, found)?;
+    let ended = ended_by(alloc, asking, base, number, found)?;
     put_done(search.id, ended, out)
 }
 

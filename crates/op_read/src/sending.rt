@@ -1,25 +1,29 @@
 //! What a search sends.
 
-ghost use Rattle.std.specs.Prelude.{◌≡◌, ◌++◌, ◌∷◌, [], ℕ, IfOk, OnOk, filter};
+ghost use Rattle.std.specs.Prelude.{◌≡◌, ◌++◌, ◌∷◌, [], ℕ, Some, IfOk, OnOk, filter};
 ghost use Rattle.std.specs.List.{list_any};
+ghost use Rattle.dir_tree.specs.tree.Numbered.{IsNumberedTree, find_name};
 ghost use Rattle.ldap_msg.specs.ber_layout.Spellings.{Extends};
 ghost use Rattle.ldap_msg.specs.declared.kinds.Reply.TheVariants as reply;
+ghost use Rattle.page_core.specs.read_model.Views.{is_disclosed};
 ghost use Rattle.page_core.specs.read_model.Selecting.{is_shown};
 ghost use Rattle.page_core.specs.read_model.Choosing.{is_chosen};
 ghost use Rattle.page_core.specs.read_model.SearchReplies.{replies_octets, nothing_found};
 ghost use Rattle.directory.specs.Asking.{view_in};
 ghost use Rattle.op_read.specs.Choices.{chooses};
 ghost use Rattle.op_read.specs.Seeing.{row_in, rows_at};
-ghost use Rattle.op_read.specs.Sending.{shown_at, shown_among, entry_octets, Goes, IsSent, ended_by};
+ghost use Rattle.op_read.specs.Sending.{is_filled, shown_at, shown_among, entry_octets, Goes, IsSent, ended_by};
 
 use crate::candidates::Candidates;
 use crate::choosing::Selection;
 use crate::seen::Seen;
 use crate::selecting::{is_found, is_seen};
 use crate::writing::put_entry;
+use acdf_filters::Item;
+use acdf_filters::aci_item::Permission;
 use dir_tree::dn_names::Dn;
 use dir_tree::{EntryNo, NoMemory};
-use directory::{Asking, Dir, discloses, no_such_object, result_of};
+use directory::{Asking, Dir, Target, no_such_object, result_of};
 use ldap_msg::{LdapResult, Reply, ResultCode, SearchRequest, put_reply};
 use page_core::read_model::filter_match::Prepared;
 use std::alloc::{AllocError, Global};
@@ -195,34 +199,55 @@ pub(crate) fn put_found<D: Dir>(
     }
 }
 
-// How the search ends that selects nothing.
+/// Whether the requester may know of the entry of the number, if there is one.
+pub(crate) fn discloses_at<D: Dir>(asking: &Asking<'_, D>, number: EntryNo) -> bool
+    ensures exact { result ≡ is_filled (shown_at is_disclosed (D.rows asking.now.dir.now)
+        asking.now.who.now number.0) }
+{
+    match asking.dir.tree().at(number) {
+        Some(entry) => {
+            let target = Target { number, entry };
+            asking.allows(target, Item::Entry, Permission::DiscloseOnError)
+        }
+        None => false,
+    }
+}
+
+// How the search ends that selects nothing, from the entry of the number on, which has the name of the base.
 fn nothing_found<D: Dir>(
     alloc: Global,
     asking: &Asking<'_, D>,
     base: &Dn,
+    number: EntryNo,
 ) -> Result<LdapResult, NoMemory>
+    requires tree { IsNumberedTree (D.rows asking.now.dir.now) }
+    requires found { find_name base.now (D.rows asking.now.dir.now) ≡ Some number.0 }
     ensures ok { IfOk result (λ ended.
         ended ≡ nothing_found (view_in (D.rows asking.now.dir.now) asking.now.who.now) base.now) }
 {
-    if discloses(asking, base) {
+    if discloses_at(asking, number) {
         Ok(result_of(alloc, ResultCode::Success))
     } else {
         no_such_object(alloc, asking, base)
     }
 }
 
-/// How the search ends, by what it has found. The error comes where memory is wanted.
+/// How the search ends, by what it has found from the entry of the number on, which has the name of the base. The error
+/// comes where memory is wanted.
 pub(crate) fn ended_by<D: Dir>(
     alloc: Global,
     asking: &Asking<'_, D>,
     base: &Dn,
+    number: EntryNo,
     found: Found,
 ) -> Result<LdapResult, NoMemory>
+    requires tree { IsNumberedTree (D.rows asking.now.dir.now) }
+    requires found { find_name base.now (D.rows asking.now.dir.now) ≡ Some number.0 }
     ensures ok { IfOk result (λ ended.
         ended ≡ ended_by (view_in (D.rows asking.now.dir.now) asking.now.who.now) base.now found) }
 {
     match found {
-        Found::Nothing => nothing_found(alloc, asking, base),
+        Found::Nothing => nothing_found(alloc, asking, base, number),
         Found::Some => Ok(result_of(alloc, ResultCode::Success)),
         Found::TooMany(_) => Ok(result_of(alloc, ResultCode::SizeLimitExceeded)),
     }

@@ -1,6 +1,6 @@
 //! An entry of a search written as it is read from the tree, with no copy of its values before (RFC 4511 4.5.2).
 
-ghost use Rattle.std.specs.Prelude.{◌≡◌, ◌++◌, [], OnOk, OnErr, map, flat_map, if◌then◌else◌};
+ghost use Rattle.std.specs.Prelude.{◌≡◌, ◌++◌, [], OnOk, OnErr, map, if◌then◌else◌};
 ghost use Rattle.dir_tree.specs.schema_tables.Attributes.{name_of};
 ghost use Rattle.ldap_msg.specs.ber_layout.Layouts.{writes};
 ghost use Rattle.ldap_msg.specs.ber_layout.Layouts.Layout.{End, Each};

@@ -1,18 +1,23 @@
 -- What is seen of a numbered tree, by the numbers of its entries.
-use Rattle.std.proofs.Common.{◌≡◌, ℕ, true, false, List, [], Option, Some, None, refl, sym, ap, subst, ◌∙◌, filter}
+use Rattle.std.proofs.Common.{◌≡◌, inl, inr, ℕ, Bool, true, false, ◌&&◌, List, [], ◌∷◌, Option, Some, None, refl, sym, ap, subst, ◌∙◌, filter}
+use Rattle.std.specs.List.{list_any}
 use Rattle.std.specs.Option.{option_map}
+use Rattle.std.proofs.lemmas.Bool.{cases_Bool}
 use Rattle.dir_tree.specs.dn_names.name.Names.{RdnSequence}
 use Rattle.dir_tree.specs.Entry.{EntryInformation}
 use Rattle.dir_tree.specs.tree.Trees.{named_in}
 use Rattle.dir_tree.specs.tree.Numbered.{Numbered, IsNumberedTree, entries_of, entry_of, find_name}
 use Rattle.dir_tree.specs.declared.number.EntryNo.{EntryNo}
+use Rattle.dir_tree.proofs.TreeTheorems.{named-found}
 use Rattle.acdf_filters.specs.aci_item.declared.permission.Permission.TheVariants.{Read}
 use Rattle.acdf_filters.specs.declared.asking.Requester.{Requester}
 use Rattle.acdf_filters.specs.Asking.{Entry}
 use Rattle.acdf_filters.specs.Granted.{granted}
+use Rattle.page_core.specs.read_model.Views.{Row, View, has_name, is_disclosed, discloses}
 use Rattle.page_core.specs.read_model.CompareReplies.{readable}
 use Rattle.directory.specs.Asking.{view_in}
 use Rattle.op_read.specs.Seeing.{row_in, one_or_none}
+use Rattle.op_read.specs.Sending.{is_filled, shown_at}
 use Rattle.op_read.proofs.seen.ListLemmas.{kept-one, dropped-one}
 use Rattle.op_read.proofs.seen.NameLemmas.{only-named}
 
@@ -58,3 +63,20 @@ name-found tree rows e name found number f g = ap (find_name name) (sym e) ∙ s
 
 pub name-none : (tree rows : List Numbered) → tree ≡ rows → (name : RdnSequence) (found : Option EntryNo) → option_map (λ no. no.0) found ≡ find_name name tree → found ≡ None → find_name name rows ≡ None
 name-none tree rows e name found f g = ap (find_name name) (sym e) ∙ sym f ∙ ap (option_map (λ (no : EntryNo). no.0)) g
+
+-- ---- what may be known of
+
+-- some pass a test
+any-filled : (test : Row → Bool) (rows : View) → list_any test rows ≡ is_filled (filter test rows)
+any-filled test [] = refl
+any-filled test (row ∷ rows) = elim (cases_Bool (test row)) [
+  | inl e ↦ rw e refl
+  | inr e ↦ rw e (any-filled test rows)
+]
+
+-- an entry of the name may be known of: the one of the number that is found
+pub disclosed-at : (rows : List Numbered) (who : Requester) (name : RdnSequence) (id : ℕ) → IsNumberedTree rows → find_name name rows ≡ Some id → is_filled (shown_at is_disclosed rows who id) ≡ discloses (view_in rows who) name
+disclosed-at rows who name id tree found =
+    ap (λ (entry : Option EntryInformation). is_filled (filter is_disclosed (one_or_none (row_in rows who) entry))) (sym (named-found name rows tree.distinct id found))
+    ∙ ap is_filled (sym (only-named (row_in rows who) is_disclosed name (λ entry. refl) (entries_of rows) tree.tree.sorted))
+    ∙ sym (any-filled (λ row. has_name name row && is_disclosed row) (view_in rows who))
