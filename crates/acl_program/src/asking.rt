@@ -24,15 +24,8 @@ use command_files::client_core::{Asked, ask_events, put_ask_script, put_replies_
 use command_files::dir_tree::{NoMemory, Tree};
 use command_files::wire_io::{ScriptLink, Shelf, Sink, write_all};
 use command_files::{load_asks, load_data};
+use command_words::Asking;
 use std::alloc::Global;
-
-/// What asking is asked for: its two files, and whether the script that sends the requests is put in place of their replies.
-#[derive(Clone, Copy, Debug)]
-pub(crate) struct Asking<'a> {
-    pub(crate) data: &'a str,
-    pub(crate) requests: &'a str,
-    pub(crate) script: bool,
-}
 
 /// Loads the data file, reads the requests, serves them as those of one connection, and prints its replies; or serves
 /// nothing and prints the script, if that is asked for.

@@ -19,23 +19,23 @@ use command_files::data_file::put_tree;
 use command_files::dir_tree::Tree;
 use command_files::wire_io::{Shelf, Sink, write_all};
 use command_files::{Applied, Loaded, load_tree};
+use command_words::Loading;
 use std::alloc::{AllocError, Global};
 
 /// Loads the data file, applies the changes where there are some, and prints how many entries and access control subentries
 /// are left, and how many changes were applied.
 pub(crate) fn check<H: Shelf, K: Sink>(
     alloc: Global,
-    name: &str,
-    changes: Option<&str>,
+    asked: &Loading<'_>,
     shelf: &mut H,
     out: &mut K,
 ) -> Status
-    ensures performs { (link : Linked) → Performs (Check name.now (option_copied changes.entry))
+    ensures performs { (link : Linked) → Performs (Check asked.now.data.now (option_copied asked.now.changes))
         (outside (H.files shelf.old) (H.faults shelf.old) (K.put out.old) (K.faults out.old) link) result
         (outside (H.files shelf.new) (H.faults shelf.new) (K.put out.new) (K.faults out.new) link) }
     ensures kept { H.files shelf.new ≡ H.files shelf.old }
 {
-    match load_tree(alloc, shelf, name, changes) {
+    match load_tree(alloc, shelf, asked.data, asked.changes) {
         Ok(loaded) => print_counts(alloc, &loaded, out),
         Err(trouble) => print_trouble(alloc, trouble, out),
     }
@@ -84,17 +84,16 @@ pub(crate) fn count_subentries(tree: &Tree) -> usize
 /// Loads the data file, applies the changes where there are some, and prints the tree that is left as a data file.
 pub(crate) fn dump<H: Shelf, K: Sink>(
     alloc: Global,
-    name: &str,
-    changes: Option<&str>,
+    asked: &Loading<'_>,
     shelf: &mut H,
     out: &mut K,
 ) -> Status
-    ensures performs { (link : Linked) → Performs (Dump name.now (option_copied changes.entry))
+    ensures performs { (link : Linked) → Performs (Dump asked.now.data.now (option_copied asked.now.changes))
         (outside (H.files shelf.old) (H.faults shelf.old) (K.put out.old) (K.faults out.old) link) result
         (outside (H.files shelf.new) (H.faults shelf.new) (K.put out.new) (K.faults out.new) link) }
     ensures kept { H.files shelf.new ≡ H.files shelf.old }
 {
-    match load_tree(alloc, shelf, name, changes) {
+    match load_tree(alloc, shelf, asked.data, asked.changes) {
         Ok(loaded) => print_tree(alloc, &loaded, out),
         Err(trouble) => print_trouble(alloc, trouble, out),
     }

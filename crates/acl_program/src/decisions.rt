@@ -20,6 +20,7 @@ use certify::prove_text;
 use command_files::dir_tree::{NoMemory, Tree};
 use command_files::load_data;
 use command_files::wire_io::{Shelf, Sink, write_all};
+use command_words::Deciding;
 use std::alloc::Global;
 
 /// How a decision is told.
@@ -31,33 +32,23 @@ pub(crate) enum Account {
     Certificate,
 }
 
-/// What a decision is asked for: how it is told, its data file, and the four words of its question.
-#[derive(Clone, Copy, Debug)]
-pub(crate) struct Deciding<'a> {
-    pub(crate) account: Account,
-    pub(crate) data: &'a str,
-    pub(crate) who: &'a str,
-    pub(crate) target: &'a str,
-    pub(crate) item: &'a str,
-    pub(crate) permission: &'a str,
-}
-
 /// Reads the question, loads the data file, and prints the decision. Where the words are no question it prints how to call
 /// the program, and reads no file.
 pub(crate) fn tell_decision<H: Shelf, K: Sink>(
     alloc: Global,
+    account: Account,
     asked: &Deciding<'_>,
     shelf: &mut H,
     out: &mut K,
 ) -> Status
-    ensures performs { (link : Linked) → Performs (decision_asked asked.now.account asked.now.data.now asked.now.who.now
+    ensures performs { (link : Linked) → Performs (decision_asked account asked.now.data.now asked.now.who.now
         asked.now.target.now asked.now.item.now asked.now.permission.now)
         (outside (H.files shelf.old) (H.faults shelf.old) (K.put out.old) (K.faults out.old) link) result
         (outside (H.files shelf.new) (H.faults shelf.new) (K.put out.new) (K.faults out.new) link) }
     ensures kept { H.files shelf.new ≡ H.files shelf.old }
 {
     match read_question(alloc, asked.who, asked.target, asked.item, asked.permission) {
-        Ok(Some(question)) => decide_over(alloc, asked, &question, shelf, out),
+        Ok(Some(question)) => decide_over(alloc, account, asked.data, &question, shelf, out),
         Ok(None) => print_usage(out),
         Err(_) => Status::NoMemory,
     }
@@ -66,20 +57,21 @@ pub(crate) fn tell_decision<H: Shelf, K: Sink>(
 /// Loads the data file, and prints the decision over its tree.
 fn decide_over<H: Shelf, K: Sink>(
     alloc: Global,
-    asked: &Deciding<'_>,
+    account: Account,
+    name: &str,
     question: &AskedDecision,
     shelf: &mut H,
     out: &mut K,
 ) -> Status
     ensures performs { (link : Linked) (who target item permission : List ℕ) →
         question_of who target item permission ≡ Some (question_view question.now) →
-        Performs (decision_asked asked.now.account asked.now.data.now who target item permission)
+        Performs (decision_asked account name.now who target item permission)
         (outside (H.files shelf.old) (H.faults shelf.old) (K.put out.old) (K.faults out.old) link) result
         (outside (H.files shelf.new) (H.faults shelf.new) (K.put out.new) (K.faults out.new) link) }
     ensures kept { H.files shelf.new ≡ H.files shelf.old }
 {
-    match load_data(alloc, shelf, asked.data) {
-        Ok(tree) => print_decision(alloc, tree, question, asked.account, out),
+    match load_data(alloc, shelf, name) {
+        Ok(tree) => print_decision(alloc, tree, question, account, out),
         Err(trouble) => print_trouble(alloc, trouble, out),
     }
 }

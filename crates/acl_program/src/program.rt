@@ -11,12 +11,12 @@ ghost use Rattle.acl_program.specs.program.Twins.{PrintsAlike};
 ghost use Rattle.acl_program.specs.Sampling.{IsFew};
 ghost use Rattle.command_words.specs.command.Command.{view};
 
-use crate::asking::{Asking, tell_replies};
+use crate::asking::tell_replies;
 use crate::data::{check, dump};
-use crate::decisions::{Account, Deciding, tell_decision};
+use crate::decisions::{Account, tell_decision};
 use crate::help::{print_help, print_version};
-use crate::replay::{Asked, replay};
-use crate::rights_table::{RightsAsked, tell_rights};
+use crate::replay::replay;
+use crate::rights_table::tell_rights;
 use crate::sample::sample;
 use crate::serve::serve;
 use crate::status::Status;
@@ -151,85 +151,19 @@ fn perform<H: Shelf, K: Sink, L: Link>(
     ensures kept { H.files shelf.new ≡ H.files shelf.old }
 {
     match command {
-        Command::Serve(serving) => serve(alloc, &serving, shelf, out, link),
-        Command::Replay {
-            data,
-            script,
-            turns,
-            dump,
-        } => replay(
-            alloc,
-            &Asked {
-                data,
-                script,
-                turns,
-                dump,
-            },
-            shelf,
-            out,
-        ),
-        Command::Check { data, changes } => check(alloc, data, changes, shelf, out),
+        Command::Serve(asked) => serve(alloc, &asked, shelf, out, link),
+        Command::Replay(asked) => replay(alloc, &asked, shelf, out),
+        Command::Check(asked) => check(alloc, &asked, shelf, out),
         Command::Why { data } => tell_why(alloc, data, shelf, out),
-        Command::Dump { data, changes } => dump(alloc, data, changes, shelf, out),
-        Command::Explain {
-            data,
-            who,
-            target,
-            item,
-            permission,
-        } => tell_decision(
-            alloc,
-            &Deciding {
-                account: Account::Explanation,
-                data,
-                who,
-                target,
-                item,
-                permission,
-            },
-            shelf,
-            out,
-        ),
+        Command::Dump(asked) => dump(alloc, &asked, shelf, out),
+        Command::Explain(asked) => {
+            tell_decision(alloc, Account::Explanation, &asked, shelf, out)
+        }
         Command::Sample { count } => sample(alloc, count, out),
-        Command::Ask {
-            data,
-            requests,
-            script,
-        } => tell_replies(
-            alloc,
-            &Asking {
-                data,
-                requests,
-                script,
-            },
-            shelf,
-            out,
-        ),
-        Command::Prove {
-            data,
-            who,
-            target,
-            item,
-            permission,
-        } => tell_decision(
-            alloc,
-            &Deciding {
-                account: Account::Certificate,
-                data,
-                who,
-                target,
-                item,
-                permission,
-            },
-            shelf,
-            out,
-        ),
-        Command::Verify { data, certificate } => {
-            tell_validity(alloc, data, certificate, shelf, out)
-        }
-        Command::Rights { data, who, target } => {
-            tell_rights(alloc, &RightsAsked { data, who, target }, shelf, out)
-        }
+        Command::Ask(asked) => tell_replies(alloc, &asked, shelf, out),
+        Command::Prove(asked) => tell_decision(alloc, Account::Certificate, &asked, shelf, out),
+        Command::Verify(asked) => tell_validity(alloc, &asked, shelf, out),
+        Command::Rights(asked) => tell_rights(alloc, &asked, shelf, out),
         Command::Help => print_help(out),
         Command::Version => print_version(out),
     }

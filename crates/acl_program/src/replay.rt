@@ -20,24 +20,16 @@ use aci_index::directory::Dir;
 use command_files::dir_tree::Tree;
 use command_files::wire_io::{ScriptLink, Shelf, Sink};
 use command_files::{load_data, load_script};
+use command_words::Replaying;
 use session_hub::laws::sessions_keep_a_directory_good;
 use session_hub::{Bounds, Ended, serve_loop};
 use std::alloc::Global;
-
-/// What a replay is asked for: its two files, how many events are heard at most, and whether the tree is put.
-#[derive(Clone, Copy, Debug)]
-pub(crate) struct Asked<'a> {
-    pub(crate) data: &'a str,
-    pub(crate) script: &'a str,
-    pub(crate) turns: u64,
-    pub(crate) dump: bool,
-}
 
 /// Loads the data file, serves the events of the script file, at most so many, and prints the lines of its connections;
 /// then the tree, if that is asked for.
 pub(crate) fn replay<H: Shelf, K: Sink>(
     alloc: Global,
-    asked: &Asked<'_>,
+    asked: &Replaying<'_>,
     shelf: &mut H,
     out: &mut K,
 ) -> Status
@@ -57,7 +49,7 @@ pub(crate) fn replay<H: Shelf, K: Sink>(
 fn replay_over<H: Shelf, K: Sink>(
     alloc: Global,
     tree: Tree,
-    asked: &Asked<'_>,
+    asked: &Replaying<'_>,
     shelf: &mut H,
     out: &mut K,
 ) -> Status

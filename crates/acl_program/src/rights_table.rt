@@ -21,15 +21,8 @@ use command_files::dir_tree::{NoMemory, Tree};
 use command_files::dn_names::Dn;
 use command_files::load_data;
 use command_files::wire_io::{Shelf, Sink, write_all};
+use command_words::RightsAsked;
 use std::alloc::Global;
-
-/// What rights are asked for: the data file, and the words that say who and on what.
-#[derive(Clone, Copy, Debug)]
-pub(crate) struct RightsAsked<'a> {
-    pub(crate) data: &'a str,
-    pub(crate) who: &'a str,
-    pub(crate) target: &'a str,
-}
 
 /// A requester, and the name of an entry.
 #[derive(Drop)]

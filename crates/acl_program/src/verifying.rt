@@ -17,24 +17,24 @@ use certify::{CertFault, verify};
 use command_files::dir_tree::Tree;
 use command_files::wire_io::{Shelf, Sink, write_all};
 use command_files::{SecondFile, Trouble, load_certificate, load_data};
+use command_words::Verifying;
 use std::alloc::{AllocError, Global};
 
 /// Loads the data file, reads the certificate, and prints whether it is that of the tree. The tree alone is asked, and no
 /// index of it.
 pub(crate) fn tell_validity<H: Shelf, K: Sink>(
     alloc: Global,
-    name: &str,
-    certificate: &str,
+    asked: &Verifying<'_>,
     shelf: &mut H,
     out: &mut K,
 ) -> Status
-    ensures performs { (link : Linked) → Performs (Verify name.now certificate.now)
+    ensures performs { (link : Linked) → Performs (Verify asked.now.data.now asked.now.certificate.now)
         (outside (H.files shelf.old) (H.faults shelf.old) (K.put out.old) (K.faults out.old) link) result
         (outside (H.files shelf.new) (H.faults shelf.new) (K.put out.new) (K.faults out.new) link) }
     ensures kept { H.files shelf.new ≡ H.files shelf.old }
 {
-    match load_data(alloc, shelf, name) {
-        Ok(tree) => verify_over(alloc, &tree, certificate, shelf, out),
+    match load_data(alloc, shelf, asked.data) {
+        Ok(tree) => verify_over(alloc, &tree, asked.certificate, shelf, out),
         Err(trouble) => print_trouble(alloc, trouble, out),
     }
 }

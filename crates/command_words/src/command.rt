@@ -69,73 +69,99 @@ pub struct Serving<'a> {
     pub changes: Option<&'a str>,
 }
 
+/// What `replay` is asked for.
+#[derive(Clone, Copy, Debug, Drop)]
+pub struct Replaying<'a> {
+    /// The name of the data file.
+    pub data: &'a str,
+    /// The name of the script file.
+    pub script: &'a str,
+    /// How many events are heard at most.
+    pub turns: u64,
+    /// Whether the tree that is left is asked for.
+    pub dump: bool,
+}
+
+/// What `check` and `dump` are asked for.
+#[derive(Clone, Copy, Debug, Drop)]
+pub struct Loading<'a> {
+    /// The name of the data file.
+    pub data: &'a str,
+    /// The name of the file of its changes, where there is one.
+    pub changes: Option<&'a str>,
+}
+
+/// What `explain` and `prove` are asked for: one decision, by texts as they stand.
+#[derive(Clone, Copy, Debug, Drop)]
+pub struct Deciding<'a> {
+    /// The name of the data file.
+    pub data: &'a str,
+    /// Who asks.
+    pub who: &'a str,
+    /// The name of the entry.
+    pub target: &'a str,
+    /// The protected item.
+    pub item: &'a str,
+    /// The permission.
+    pub permission: &'a str,
+}
+
+/// What `ask` is asked for.
+#[derive(Clone, Copy, Debug, Drop)]
+pub struct Asking<'a> {
+    /// The name of the data file.
+    pub data: &'a str,
+    /// The name of the file of requests.
+    pub requests: &'a str,
+    /// Whether the script that sends the requests is asked for in place of their replies.
+    pub script: bool,
+}
+
+/// What `verify` is asked for.
+#[derive(Clone, Copy, Debug, Drop)]
+pub struct Verifying<'a> {
+    /// The name of the data file.
+    pub data: &'a str,
+    /// The name of the certificate's file.
+    pub certificate: &'a str,
+}
+
+/// What `rights` is asked for: all decisions on one entry, by texts as they stand.
+#[derive(Clone, Copy, Debug, Drop)]
+pub struct RightsAsked<'a> {
+    /// The name of the data file.
+    pub data: &'a str,
+    /// Who asks.
+    pub who: &'a str,
+    /// The name of the entry.
+    pub target: &'a str,
+}
+
 /// What the words of the program ask for. Its texts are parts of the words.
 #[derive(Clone, Copy, Debug, Drop)]
 pub enum Command<'a> {
     /// `serve DATA ADDRESS [--sessions N] [--turns N] [--queues MIB] [--idle SECONDS] [--limit N] [--changes FILE]`.
     Serve(Serving<'a>),
-    /// `replay DATA SCRIPT [--dump] [--turns N]`: the names of the two files, how many events are heard at
-    /// most, and whether the tree that is left is asked for.
-    Replay {
-        data: &'a str,
-        script: &'a str,
-        turns: u64,
-        dump: bool,
-    },
-    /// `check DATA [--changes FILE]`: the name of the file, and that of the file of its changes where there is one.
-    Check {
-        data: &'a str,
-        changes: Option<&'a str>,
-    },
+    /// `replay DATA SCRIPT [--dump] [--turns N]`.
+    Replay(Replaying<'a>),
+    /// `check DATA [--changes FILE]`.
+    Check(Loading<'a>),
     /// `check DATA --why`: the name of the file. No words ask for this with a file of changes.
-    Why {
-        data: &'a str,
-    },
-    /// `dump DATA [--changes FILE]`: the name of the file, and that of the file of its changes where there is one.
-    Dump {
-        data: &'a str,
-        changes: Option<&'a str>,
-    },
-    /// `explain DATA WHO TARGET ITEM PERMISSION`: the name of the file, and the texts that ask for one
-    /// decision, as they stand.
-    Explain {
-        data: &'a str,
-        who: &'a str,
-        target: &'a str,
-        item: &'a str,
-        permission: &'a str,
-    },
+    Why { data: &'a str },
+    /// `dump DATA [--changes FILE]`.
+    Dump(Loading<'a>),
+    /// `explain DATA WHO TARGET ITEM PERMISSION`.
+    Explain(Deciding<'a>),
     /// `sample N`: how many persons the sample has, from 1 to 20,000.
-    Sample {
-        count: u64,
-    },
-    /// `ask DATA REQUESTS [--script]`: the names of the two files, and whether the script that sends the requests is asked
-    /// for in place of their replies.
-    Ask {
-        data: &'a str,
-        requests: &'a str,
-        script: bool,
-    },
-    /// `prove DATA WHO TARGET ITEM PERMISSION`: the name of the file, and the texts that ask for the certificate of one
-    /// decision, as they stand.
-    Prove {
-        data: &'a str,
-        who: &'a str,
-        target: &'a str,
-        item: &'a str,
-        permission: &'a str,
-    },
-    /// `verify DATA CERTIFICATE`: the names of the two files.
-    Verify {
-        data: &'a str,
-        certificate: &'a str,
-    },
-    /// `rights DATA WHO TARGET`: the name of the file, and the texts that ask for all decisions on one entry, as they stand.
-    Rights {
-        data: &'a str,
-        who: &'a str,
-        target: &'a str,
-    },
+    Sample { count: u64 },
+    /// `ask DATA REQUESTS [--script]`.
+    Ask(Asking<'a>),
+    /// `prove DATA WHO TARGET ITEM PERMISSION`: as `explain`, but for the certificate of the decision.
+    Prove(Deciding<'a>),
+    /// `verify DATA CERTIFICATE`.
+    Verify(Verifying<'a>),
+    /// `rights DATA WHO TARGET`.
+    Rights(RightsAsked<'a>),
     /// `--help`: how the program is called.
     Help,
     /// `--version`: which version of the program this is.
@@ -272,12 +298,12 @@ fn read_replay<'a>(matches: &ArgMatches<'a>) -> Option<Command<'a>>
     let script = kept_text(matches, Sought::Operands, 1)?;
     let turns = read_number(matches, OptionName::Turns, TURNS)?;
     let dump = is_set(matches, OptionName::Dump);
-    Some(Command::Replay {
+    Some(Command::Replay(Replaying {
         data,
         script,
         turns,
         dump,
-    })
+    }))
 }
 
 #[tactic(auto, unfolding(crate::specs::parser::Asked::command_said))]
@@ -292,7 +318,7 @@ fn read_check<'a>(matches: &ArgMatches<'a>) -> Option<Command<'a>>
             None => Some(Command::Why { data }),
         }
     } else {
-        Some(Command::Check { data, changes })
+        Some(Command::Check(Loading { data, changes }))
     }
 }
 
@@ -302,7 +328,7 @@ fn read_dump<'a>(matches: &ArgMatches<'a>) -> Option<Command<'a>>
 {
     let data = kept_text(matches, Sought::Operands, 0)?;
     let changes = kept_text(matches, Sought::Arguments(OptionName::Changes), 0);
-    Some(Command::Dump { data, changes })
+    Some(Command::Dump(Loading { data, changes }))
 }
 
 #[tactic(auto, unfolding(crate::specs::parser::Asked::command_said))]
@@ -314,13 +340,13 @@ fn read_explain<'a>(matches: &ArgMatches<'a>) -> Option<Command<'a>>
     let target = kept_text(matches, Sought::Operands, 2)?;
     let item = kept_text(matches, Sought::Operands, 3)?;
     let permission = kept_text(matches, Sought::Operands, 4)?;
-    Some(Command::Explain {
+    Some(Command::Explain(Deciding {
         data,
         who,
         target,
         item,
         permission,
-    })
+    }))
 }
 
 #[tactic(auto, unfolding(crate::specs::parser::Asked::command_said))]
@@ -339,11 +365,11 @@ fn read_ask<'a>(matches: &ArgMatches<'a>) -> Option<Command<'a>>
     let data = kept_text(matches, Sought::Operands, 0)?;
     let requests = kept_text(matches, Sought::Operands, 1)?;
     let script = is_set(matches, OptionName::Script);
-    Some(Command::Ask {
+    Some(Command::Ask(Asking {
         data,
         requests,
         script,
-    })
+    }))
 }
 
 #[tactic(auto, unfolding(crate::specs::parser::Asked::command_said))]
@@ -355,13 +381,13 @@ fn read_prove<'a>(matches: &ArgMatches<'a>) -> Option<Command<'a>>
     let target = kept_text(matches, Sought::Operands, 2)?;
     let item = kept_text(matches, Sought::Operands, 3)?;
     let permission = kept_text(matches, Sought::Operands, 4)?;
-    Some(Command::Prove {
+    Some(Command::Prove(Deciding {
         data,
         who,
         target,
         item,
         permission,
-    })
+    }))
 }
 
 #[tactic(auto, unfolding(crate::specs::parser::Asked::command_said))]
@@ -370,7 +396,7 @@ fn read_verify<'a>(matches: &ArgMatches<'a>) -> Option<Command<'a>>
 {
     let data = kept_text(matches, Sought::Operands, 0)?;
     let certificate = kept_text(matches, Sought::Operands, 1)?;
-    Some(Command::Verify { data, certificate })
+    Some(Command::Verify(Verifying { data, certificate }))
 }
 
 #[tactic(auto, unfolding(crate::specs::parser::Asked::command_said))]
@@ -380,7 +406,7 @@ fn read_rights<'a>(matches: &ArgMatches<'a>) -> Option<Command<'a>>
     let data = kept_text(matches, Sought::Operands, 0)?;
     let who = kept_text(matches, Sought::Operands, 1)?;
     let target = kept_text(matches, Sought::Operands, 2)?;
-    Some(Command::Rights { data, who, target })
+    Some(Command::Rights(RightsAsked { data, who, target }))
 }
 
 #[tactic(auto, unfolding(crate::specs::parser::Asked::command_said))]

@@ -8,4 +8,6 @@ mod number;
 mod parser;
 mod table;
 
-pub use command::{Command, Serving, read_words};
+pub use command::{
+    Asking, Command, Deciding, Loading, Replaying, RightsAsked, Serving, Verifying, read_words,
+};

@@ -1,6 +1,6 @@
 //! Words of the command line, and what they ask for.
 
-use command_words::{Command, Serving, read_words};
+use command_words::{Command, Deciding, Loading, Serving, read_words};
 use std::alloc::{AllocError, Global};
 use std::test::*;
 
@@ -40,70 +40,61 @@ fn serving_text(alloc: Global, serving: Serving<'_>) -> Result<String, AllocErro
 }
 
 // A command of a data file, with its file of changes, if it has one.
-fn changed_text(
-    alloc: Global,
-    command: &str,
-    data: &str,
-    changes: Option<&str>,
-) -> Result<String, AllocError> {
-    match changes {
+fn loading_text(alloc: Global, command: &str, loading: Loading<'_>) -> Result<String, AllocError> {
+    let data = loading.data;
+    match loading.changes {
         Some(changes) => format!(in alloc; "{command} [{data}] [{changes}]"),
         None => format!(in alloc; "{command} [{data}]"),
     }
+}
+
+// A command of one decision.
+fn deciding_text(
+    alloc: Global,
+    command: &str,
+    deciding: Deciding<'_>,
+) -> Result<String, AllocError> {
+    let Deciding {
+        data,
+        who,
+        target,
+        item,
+        permission,
+    } = deciding;
+    format!(in alloc; "{command} [{data}] [{who}] [{target}] [{item}] [{permission}]")
 }
 
 // What words ask for, in one line: each text between brackets.
 fn answer(alloc: Global, words: &[String]) -> Result<String, AllocError> {
     match read_words(alloc, words)? {
         Some(Command::Serve(serving)) => serving_text(alloc, serving),
-        Some(
-            Command::Replay {
-                data,
-                script,
-                turns,
-                dump,
-            },
-        ) => format!(in alloc;
-            "[{data}] [{script}] {turns}{}",
-            if dump { " dump" } else { "" }
+        Some(Command::Replay(asked)) => format!(in alloc;
+            "[{}] [{}] {}{}",
+            asked.data,
+            asked.script,
+            asked.turns,
+            if asked.dump { " dump" } else { "" }
         ),
-        Some(Command::Check { data, changes }) => changed_text(alloc, "check", data, changes),
+        Some(Command::Check(loading)) => loading_text(alloc, "check", loading),
         Some(Command::Why { data }) => format!(in alloc; "why [{data}]"),
-        Some(Command::Dump { data, changes }) => changed_text(alloc, "dump", data, changes),
-        Some(
-            Command::Explain {
-                data,
-                who,
-                target,
-                item,
-                permission,
-            },
-        ) => format!(in alloc; "explain [{data}] [{who}] [{target}] [{item}] [{permission}]"),
+        Some(Command::Dump(loading)) => loading_text(alloc, "dump", loading),
+        Some(Command::Explain(deciding)) => deciding_text(alloc, "explain", deciding),
         Some(Command::Sample { count }) => format!(in alloc; "sample {count}"),
-        Some(
-            Command::Ask {
-                data,
-                requests,
-                script,
-            },
-        ) => format!(in alloc;
-            "ask [{data}] [{requests}]{}",
-            if script { " script" } else { "" }
+        Some(Command::Ask(asked)) => format!(in alloc;
+            "ask [{}] [{}]{}",
+            asked.data,
+            asked.requests,
+            if asked.script { " script" } else { "" }
         ),
-        Some(
-            Command::Prove {
-                data,
-                who,
-                target,
-                item,
-                permission,
-            },
-        ) => format!(in alloc; "prove [{data}] [{who}] [{target}] [{item}] [{permission}]"),
-        Some(Command::Verify { data, certificate }) => {
-            format!(in alloc; "verify [{data}] [{certificate}]")
+        Some(Command::Prove(deciding)) => deciding_text(alloc, "prove", deciding),
+        Some(Command::Verify(asked)) => {
+            format!(in alloc; "verify [{}] [{}]", asked.data, asked.certificate)
         }
-        Some(Command::Rights { data, who, target }) => {
-            format!(in alloc; "rights [{data}] [{who}] [{target}]")
+        Some(Command::Rights(asked)) => {
+            format!(in alloc;
+                "rights [{}] [{}] [{}]",
+                asked.data, asked.who, asked.target
+            )
         }
         Some(Command::Help) => String::from_str(alloc, "help"),
         Some(Command::Version) => String::from_str(alloc, "version"),

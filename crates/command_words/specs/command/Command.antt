@@ -58,16 +58,16 @@ serving_view serving = record {
 -- a command as it is read, with its texts as octets
 abbrev pub view : Command → CommandView
 view (command.Serve serving) = Serve (serving_view serving)
-view (command.Replay data_file script turns dump) = Replay data_file.now script.now turns dump
-view (command.Check data_file changes) = Check data_file.now (option_copied changes)
+view (command.Replay replaying) = Replay replaying.«data».now replaying.script.now replaying.turns replaying.dump
+view (command.Check loading) = Check loading.«data».now (option_copied loading.changes)
 view (command.Why data_file) = Why data_file.now
-view (command.Dump data_file changes) = Dump data_file.now (option_copied changes)
-view (command.Explain data_file who target item permission) = Explain data_file.now who.now target.now item.now permission.now
+view (command.Dump loading) = Dump loading.«data».now (option_copied loading.changes)
+view (command.Explain deciding) = Explain deciding.«data».now deciding.who.now deciding.target.now deciding.item.now deciding.permission.now
 view (command.Sample count) = Sample count
-view (command.Ask data_file requests script) = Ask data_file.now requests.now script
-view (command.Prove data_file who target item permission) = Prove data_file.now who.now target.now item.now permission.now
-view (command.Verify data_file certificate) = Verify data_file.now certificate.now
-view (command.Rights data_file who target) = Rights data_file.now who.now target.now
+view (command.Ask asking) = Ask asking.«data».now asking.requests.now asking.script
+view (command.Prove deciding) = Prove deciding.«data».now deciding.who.now deciding.target.now deciding.item.now deciding.permission.now
+view (command.Verify verifying) = Verify verifying.«data».now verifying.certificate.now
+view (command.Rights rights) = Rights rights.«data».now rights.who.now rights.target.now
 view command.Help = Help
 view command.Version = Version
 
