@@ -19,6 +19,8 @@ pub use Rattle.session_model.proofs.laws.TurnedLemmas.{opened_leads, works_opene
 -- from item to item within a block
 pub use Rattle.session_model.proofs.laws.ItemLemmas.{works_as, works_taken, works_refused, refused_stands, refused_held, works_released, works_sent, works_hung_up}
 pub use Rattle.session_model.proofs.laws.LostLemmas.{lost_leads, lost_hung_up}
+-- how many may be on hold
+pub use Rattle.session_model.proofs.laws.PlacedLemmas.{refused_fits}
 -- what a journal then is
 pub use Rattle.session_model.proofs.laws.ReplayLemmas.{works_leads, works_served, works_free, works_replayed, own_steps, events_of}
 pub use Rattle.session_model.proofs.laws.StoredLemmas.{works_stored, works_stored_front, stored_before, stored_front, changes-step}

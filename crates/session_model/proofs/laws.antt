@@ -25,6 +25,7 @@ pub mod MeetingLemmas
 pub mod ServedLemmas
 pub mod LeftLemmas
 pub mod PieceLemmas
+pub mod PlacedLemmas
 pub mod NextLemmas
 pub mod OnceLemmas
 pub mod StoredLemmas

@@ -1,5 +1,5 @@
 -- The steps that a link's journal tells, and what each of its moments and items may be asked.
-use Rattle.std.specs.Prelude.{◌≡◌, ◌≤◌, ◌+◌, ℕ, ◌==◌, Bool, true, false, ◌&&◌, if◌then◌else◌, List, [], ◌∷◌, ◌++◌, map, None, Some}
+use Rattle.std.specs.Prelude.{◌≡◌, ◌≤◌, ◌<◌, ◌+◌, ℕ, ◌==◌, Bool, true, false, ◌&&◌, if◌then◌else◌, List, [], ◌∷◌, ◌++◌, map, None, Some}
 use Rattle.wire_io.specs.declared.journal.Event.{Event}
 use Rattle.wire_io.specs.declared.journal.Event.TheVariants as event
 use Rattle.wire_io.specs.declared.journal.Item.{Item}
@@ -65,6 +65,11 @@ cuts_at number (HungUp other) = 0
 unfoldable pub cuts_of : ℕ → List Step → ℕ
 cuts_of number [] = 0
 cuts_of number (first ∷ steps) = cuts_at number first + cuts_of number steps
+
+-- some connection is cut, by its number
+pub record HasCut (steps : List Step) : Type 0 where
+  pub number : ℕ
+  pub cut : 0 < cuts_of number steps
 
 -- each connection is cut once at most
 unfoldable pub CutOnce : List Step → Type 0

@@ -4,11 +4,11 @@ use Rattle.wire_io.specs.declared.journal.Item.{Item}
 use Rattle.wire_io.specs.declared.journal.Item.TheVariants as item
 use Rattle.wire_io.specs.Journal.{taken_of, stored_of, is_hung_up, is_held, was_opened}
 use Rattle.session_model.specs.Rules.{Rules}
-use Rattle.session_model.specs.Run.{Session, Sessions, State, Open, Closing, TurnedAway, Away, Unopened, Step}
+use Rattle.session_model.specs.Run.{Session, Sessions, State, Open, Closing, TurnedAway, Away, Unopened, Step, most_held}
 use Rattle.session_model.specs.Run as run
 use Rattle.session_model.specs.Kept.{Kept, Held, queue_of, kept_of}
 use Rattle.session_model.specs.Keeping.{Keeps, is_listed}
-use Rattle.session_model.specs.Journaled.{HasNoCut, cuts_of, is_event, all_taken, WasLater}
+use Rattle.session_model.specs.Journaled.{HasNoCut, HasCut, cuts_of, is_event, all_taken, WasLater}
 use Rattle.session_model.specs.Serving.{Stands, Sound}
 use Rattle.session_model.specs.Replaying.{is_away, is_leaving, replayed}
 
@@ -66,6 +66,8 @@ module _ {T W : Type 0} (rules : Rules T W) (tree : T) where
     pub fresh : (number : ℕ) → is_listed number current.opened ≡ false → (current.of number).state ≡ Unopened
     pub cuts : (number : ℕ) → cuts_of number steps ≤ cuts_in (current.of number).state
     pub no_cut : held.was_cut ≡ false → HasNoCut steps
+    pub cut : held.was_cut ≡ true → HasCut steps
+    pub few : length held.kept ≤ most_held
     pub sound : Sound rules tree steps journal
 
   -- the events replayed come to where these sessions come once all are hung up that are to be; of those not held all was taken
@@ -80,6 +82,7 @@ module _ {T W : Type 0} (rules : Rules T W) (tree : T) where
     pub tracks : Tracks steps now held on_hold journal
     pub hung : (number : ℕ) → is_hung_up number journal ≡ is_away (now.of number).state
     pub unturned : (number : ℕ) → is_turned (now.of number).state ≡ false
+    pub placed : (number : ℕ) → is_listed number on_hold ≡ true → run.is_held (now.of number).state ≡ true
     pub stands : (number : ℕ) → is_listed number due ≡ false → Stands (now.of number).state journal number (now.of number)
     pub replay : all_taken journal ≡ true → Replays steps now journal
 

@@ -1,5 +1,5 @@
 -- The items of a block: octets are taken of the first that is due, it is refused, held, released, done, or hung up.
-use Rattle.std.proofs.Common.{◌≡◌, ◌≢◌, ◌≤◌, ◌+◌, ℕ, true, false, List, [], ◌∷◌, ◌++◌, length, drop, take, refl, ap, sym, ◌∙◌, arith, subst, true≢false, length-append, append-nil}
+use Rattle.std.proofs.Common.{◌≡◌, ◌≢◌, ◌≤◌, ◌+◌, ℕ, true, false, List, [], ◌∷◌, ◌++◌, length, drop, take, inl, refl, ap, sym, ◌∙◌, arith, subst, true≢false, length-append, append-nil}
 use Rattle.std.proofs.lemmas.Bool.Decides.{nat_tests}
 use Rattle.std.proofs.lemmas.List.{length-take-le}
 use Rattle.wire_io.specs.declared.journal.Item.{Item}
@@ -19,6 +19,7 @@ use Rattle.session_model.proofs.laws.JournalLemmas.{Still, IsAbout, still-about,
 use Rattle.session_model.proofs.laws.StepLemmas.{with_session-same, with_session-other, replayed-stay, run_from-one, cuts_of-one}
 use Rattle.session_model.proofs.laws.StandLemmas.{at_numbers, Keeps-as, front_as, stands_more, stands_held, stands_done, all_sent, may_hang_up, leaving_held, not_unopened, taken_front, taken_fits}
 use Rattle.session_model.proofs.laws.TrackLemmas.{Stays, RightlyNow, tracks_more, tracks_stay, front_now, leaving_now, unsent_now, held_now, cuts_in-one}
+use Rattle.session_model.proofs.laws.KeptLemmas.{length-forgotten}
 use Rattle.session_model.proofs.laws.KeepingLemmas.{Keeps-taken, Keeps-left}
 use Rattle.session_model.proofs.laws.LeavingLemmas.{left_hung_up}
 use Rattle.session_model.proofs.laws.EventLemmas.{not_due}
@@ -26,6 +27,13 @@ use Rattle.session_model.proofs.laws.EventLemmas.{not_due}
 -- a list from which a number was taken that isn't in it
 pub puts_none : (c : ℕ) (xs : List ℕ) → is_listed c xs ≡ false → Puts c false xs xs
 puts_none c xs none = record { own = none; others = λ d differs. refl }
+
+-- whoever is on hold is held still, once another isn't on hold any more
+stays_placed : {T W : Type 0} (c : ℕ) (u : Sessions T W) (on_hold now_on_hold : List ℕ) → Puts c false on_hold now_on_hold →
+    ((d : ℕ) → d ≢ c → is_listed d on_hold ≡ true → session.is_held (u.of d).state ≡ true) → (d : ℕ) → is_listed d now_on_hold ≡ true → session.is_held (u.of d).state ≡ true
+stays_placed c u on_hold now_on_hold puts placed =
+    at_numbers c (λ d. is_listed d now_on_hold ≡ true → session.is_held (u.of d).state ≡ true) (λ listed. absurd (true≢false (sym listed ∙ puts.own)))
+    (λ d differs listed. placed d differs (sym (puts.others d differs) ∙ listed))
 
 module _ {T W : Type 0} (r : Rules T W) (t : T) where
   -- whoever is due last may be said to stand as well
@@ -38,6 +46,7 @@ module _ {T W : Type 0} (r : Rules T W) (t : T) where
         tracks = works.tracks;
         hung = works.hung;
         unturned = works.unturned;
+        placed = works.placed;
         stands = at_numbers c (λ d. is_listed d due ≡ false → Stands (works.now.of d).state journal d (works.now.of d)) (λ _. stands)
             (λ d differs apart. works.stands d (grind (arith, nat_tests)));
         replay = works.replay;
@@ -52,22 +61,25 @@ module _ {T W : Type 0} (r : Rules T W) (t : T) where
         tracks = works.tracks;
         hung = works.hung;
         unturned = works.unturned;
+        placed = works.placed;
         stands = λ d apart. works.stands d (covers.covers d apart);
         replay = works.replay;
       }
 
   -- an item about the first that is due leaves the others as they stand
   works_item : (c : ℕ) (due : List ℕ) (h h' : Held T W) (on_hold now_on_hold : List ℕ) (journal : List Item) (i : Item) → (works : Works r t (c ∷ due) h on_hold journal) → IsAbout c i →
+      ((d : ℕ) → is_listed d now_on_hold ≡ true → session.is_held (works.now.of d).state ≡ true) →
       Stays r t works.now h h' now_on_hold journal i → ((d : ℕ) → is_hung_up d (journal ++ i ∷ []) ≡ is_hung_up d journal) →
       ((d : ℕ) → session.is_held (works.now.of d).state ≡ false → taken_of d (journal ++ i ∷ []) ≡ taken_of d journal) →
       Works r t (c ∷ due) h' now_on_hold (journal ++ i ∷ [])
-  works_item c due h h' on_hold now_on_hold journal i works about stays hung unheld =
+  works_item c due h h' on_hold now_on_hold journal i works about placed stays hung unheld =
       record {
         steps = works.steps;
         now = works.now;
         tracks = tracks_stay r t works.steps works.now h h' on_hold now_on_hold journal i works.tracks stays;
         hung = λ d. hung d ∙ works.hung d;
         unturned = works.unturned;
+        placed = placed;
         stands = λ d apart. stands_more (works.now.of d).state journal (journal ++ i ∷ []) d (works.now.of d) (still-about c d journal i about (not_due d c due apart).0)
             (was_later-more d journal i about.events) (works.stands d apart);
         replay = λ all. (let before = works.replay (all_taken-front journal i all) in record { same = before.same; taken = λ d none. unheld d none ∙ before.taken d none });
@@ -91,7 +103,7 @@ module _ {T W : Type 0} (r : Rules T W) (t : T) where
       let own : taken_of c after ≡ taken_of c journal ++ piece = taken_of-taken c journal piece in
       let other : (d : ℕ) → d ≢ c → taken_of d after ≡ taken_of d journal = λ d differs. (still-about c d journal i about differs).taken in
       let long : length piece ≡ n = length-take-le n q fits in
-      works_item c due h (record h { kept = taken_off c n h.kept }) on_hold on_hold journal i works about (record {
+      works_item c due h (record h { kept = taken_off c n h.kept }) on_hold on_hold journal i works about works.placed (record {
         none = refl;
         keeps = Keeps-as u (more_taken c n (λ d. length (taken_of d journal))) _ _
             (at_numbers c (λ d. more_taken c n (λ e. length (taken_of e journal)) d ≡ length (taken_of d after))
@@ -118,7 +130,7 @@ module _ {T W : Type 0} (r : Rules T W) (t : T) where
       let u = works.now in
       let still : (d : ℕ) → Still d journal (journal ++ item.Later c ∷ []) = λ d. still-later c d journal in
       record {
-        works = works_item c due h h on_hold on_hold journal (item.Later c) works (about-later c) (record {
+        works = works_item c due h h on_hold on_hold journal (item.Later c) works (about-later c) works.placed (record {
           none = refl;
           keeps = Keeps-as u _ _ h (λ d. ap length (sym (still d).taken)) works.tracks.keeps;
           unstored = unstored-still u.changes h.unstored journal (item.Later c) (about-later c).stores works.tracks.unstored;
@@ -154,7 +166,10 @@ module _ {T W : Type 0} (r : Rules T W) (t : T) where
       let u = works.now in
       let after = journal ++ item.Held c ∷ [] in
       let about = about-held c in
-      let now = works_item c due h h on_hold now_on_hold journal (item.Held c) works about (record {
+      let placed : (d : ℕ) → is_listed d now_on_hold ≡ true → session.is_held (u.of d).state ≡ true =
+      at_numbers c (λ d. is_listed d now_on_hold ≡ true → session.is_held (u.of d).state ≡ true) (λ _. (some_unsent c due h on_hold journal works refused.queued).0)
+      (λ d differs listed. works.placed d (sym (puts.others d differs) ∙ listed)) in
+      let now = works_item c due h h on_hold now_on_hold journal (item.Held c) works about placed (record {
         none = refl;
         keeps = Keeps-as u _ _ h (λ d. ap length (sym (taken_of-held c d journal))) works.tracks.keeps;
         unstored = unstored-still u.changes h.unstored journal (item.Held c) about.stores works.tracks.unstored;
@@ -177,7 +192,7 @@ module _ {T W : Type 0} (r : Rules T W) (t : T) where
       let u = works.now in
       let after = journal ++ item.Released c ∷ [] in
       let about = about-released c in
-      works_item c due h h on_hold now_on_hold journal (item.Released c) works about (record {
+      works_item c due h h on_hold now_on_hold journal (item.Released c) works about (stays_placed c u on_hold now_on_hold puts (λ d _. works.placed d)) (record {
         none = refl;
         keeps = Keeps-as u _ _ h (λ d. ap length (sym (taken_of-released c d journal))) works.tracks.keeps;
         unstored = unstored-still u.changes h.unstored journal (item.Released c) about.stores works.tracks.unstored;
@@ -205,6 +220,7 @@ module _ {T W : Type 0} (r : Rules T W) (t : T) where
     pub may : MayHangUp (u.of c).state journal c (u.of c)
     pub hung : (d : ℕ) → d ≢ c → is_hung_up d journal ≡ is_away (u.of d).state
     pub unturned : (d : ℕ) → d ≢ c → is_turned (u.of d).state ≡ false
+    pub placed : (d : ℕ) → d ≢ c → is_listed d on_hold ≡ true → session.is_held (u.of d).state ≡ true
     pub stands : (d : ℕ) → d ≢ c → is_listed d due ≡ false → Stands (u.of d).state journal d (u.of d)
     pub replay : all_taken journal ≡ true → Replays r t steps u journal × (is_leaving (u.of c).state ≡ true) × (taken_of c journal ≡ (u.of c).reply)
 
@@ -247,6 +263,8 @@ module _ {T W : Type 0} (r : Rules T W) (t : T) where
               (rw is (let a : cuts_of c steps ≤ cuts_in (u.of c).state = leaves.tracks.cuts c in let b = cuts_in-one (u.of c).state in omega arith))
               (λ e differs. rw (other e differs) (let a : cuts_of e steps ≤ cuts_in (u.of e).state = leaves.tracks.cuts e in omega arith)) d);
           no_cut = λ none. (none, refl);
+          cut = λ cut. inl cut;
+          few = (let fewer = length-forgotten c h.kept in let few = leaves.tracks.few in omega arith);
           fronts = at_numbers c (λ d. IsFront after d (v.of d))
               (subst (λ (x : Session W). IsFront after c x) (sym is) (front_as journal after c (u.of c) (taken c) (front c)))
               (λ d differs. subst (λ (x : Session W). IsFront after d x) (sym (other d differs)) (front_as journal after d (u.of d) (taken d) (front d)));
@@ -255,6 +273,7 @@ module _ {T W : Type 0} (r : Rules T W) (t : T) where
         hung = hung;
         unturned = at_numbers c (λ d. is_turned (v.of d).state ≡ false) (ap (λ (x : Session W). is_turned x.state) is)
             (λ d differs. ap (λ (x : Session W). is_turned x.state) (other d differs) ∙ leaves.unturned d differs);
+        placed = stays_placed c v on_hold now_on_hold puts (λ d differs listed. ap (λ (x : Session W). session.is_held x.state) (other d differs) ∙ leaves.placed d differs listed);
         stands = at_numbers c (λ d. is_listed d due ≡ false → Stands (v.of d).state after d (v.of d))
             (λ _. subst (λ (x : Session W). Stands x.state after c x) (sym is) (is_hung_up-hung_up c journal, is_held-hung_up c journal))
             (λ d differs apart. subst (λ (x : Session W). Stands x.state after d x) (sym (other d differs))
@@ -281,6 +300,7 @@ module _ {T W : Type 0} (r : Rules T W) (t : T) where
         may = may_hang_up (u.of c).state journal c (u.of c) leaving none;
         hung = λ d _. works.hung d;
         unturned = λ d _. works.unturned d;
+        placed = λ d _. works.placed d;
         stands = λ d differs apart. works.stands d (grind (arith, nat_tests));
         replay = λ all. (works.replay all, leaving, all_sent journal c (u.of c) (front_now r t works.steps u h on_hold journal works.tracks c) none);
       }) (puts_none c on_hold free)

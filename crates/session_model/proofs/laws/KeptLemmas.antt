@@ -1,7 +1,8 @@
 -- Look-ups by number in the connections held, after each change.
-use Rattle.std.proofs.Common.{◌≡◌, ℕ, ◌==◌, Bool, true, false, cond, List, [], ◌∷◌, ◌++◌, map, Option, Some, None, option_map, refl, arith, filter}
+use Rattle.std.proofs.Common.{◌≡◌, ◌≤◌, length, ℕ, ◌==◌, Bool, true, false, cond, List, [], ◌∷◌, ◌++◌, map, Option, Some, None, option_map, refl, arith, filter}
 use Rattle.std.proofs.lemmas.Bool.Decides.{nat_tests}
 use Rattle.session_model.specs.Kept.{Kept, kept_of, queue_of, closing_of, changed, forgotten}
+use Rattle.session_model.specs.Keeping.{is_listed}
 
 -- the queue and the closing of what was found
 abbrev pub queue_in : {W : Type 0} → Option (Kept W) → List ℕ
@@ -34,6 +35,20 @@ pub number-changed : {W : Type 0} (c : ℕ) (f : Kept W → Kept W) → ((k : Ke
     (ks : List (Kept W)) → map (λ k. k.number) (changed c f ks) ≡ map (λ k. k.number) ks
 number-changed c f same [] = refl
 number-changed c f same (k ∷ ks) = grind (arith, nat_tests, same k, number-changed c f same ks)
+
+-- as many are held
+pub length-changed : {W : Type 0} (c : ℕ) (f : Kept W → Kept W) (ks : List (Kept W)) → length (changed c f ks) ≡ length ks
+length-changed c f [] = refl
+length-changed c f (k ∷ ks) = grind (arith, nat_tests, length-changed c f ks)
+
+pub length-forgotten : {W : Type 0} (c : ℕ) (ks : List (Kept W)) → length (forgotten c ks) ≤ length ks
+length-forgotten c [] = omega arith
+length-forgotten c (k ∷ ks) = grind (arith, nat_tests, length-forgotten c ks)
+
+-- whoever is found is among the numbers
+pub number-found : {W : Type 0} (c : ℕ) (ks : List (Kept W)) (k : Kept W) → kept_of c ks ≡ Some k → is_listed c (map (λ k. k.number) ks) ≡ true
+number-found c [] k found = cc
+number-found c (x ∷ xs) k found = grind (arith, nat_tests, number-found c xs k)
 
 -- the numbers without one
 abbrev pub without : ℕ → List ℕ → List ℕ

@@ -1,5 +1,5 @@
 -- A connection that was found lost is forgotten and hung up.
-use Rattle.std.proofs.Common.{◌≡◌, ◌≢◌, ◌≤◌, ◌+◌, ℕ, Bool, true, false, List, [], ◌∷◌, ◌++◌, length, refl, ap, sym, ◌∙◌, arith, subst, true≢false, ◌&&◌}
+use Rattle.std.proofs.Common.{◌≡◌, ◌≢◌, ◌≤◌, ◌+◌, ℕ, Bool, true, false, List, [], ◌∷◌, ◌++◌, length, inl, refl, ap, sym, ◌∙◌, arith, subst, true≢false, ◌&&◌}
 use Rattle.std.proofs.lemmas.Bool.Decides.{nat_tests}
 use Rattle.wire_io.specs.declared.journal.Item.{Item}
 use Rattle.wire_io.specs.declared.journal.Item.TheVariants as item
@@ -18,6 +18,7 @@ use Rattle.session_model.proofs.laws.JournalLemmas.{Still, still-gone, unstored-
 use Rattle.session_model.proofs.laws.StepLemmas.{with_session-same, with_session-other, run_from-one, cuts_of-one}
 use Rattle.session_model.proofs.laws.StandLemmas.{at_numbers, Keeps-as, front_as, stands_more, not_unopened, held_not_away}
 use Rattle.session_model.proofs.laws.TrackLemmas.{RightlyNow, tracks_more, front_now, held_now, cuts_in-one}
+use Rattle.session_model.proofs.laws.KeptLemmas.{length-forgotten}
 use Rattle.session_model.proofs.laws.KeepingLemmas.{Keeps-left}
 use Rattle.session_model.proofs.laws.ItemLemmas.{leaves_works}
 
@@ -55,6 +56,8 @@ module _ {T W : Type 0} (r : Rules T W) (t : T) where
             (rw is (let a : cuts_of c steps ≤ cuts_in (u.of c).state = tracks.cuts c in let b = cuts_in-one (u.of c).state in omega arith))
             (λ e differs. rw (other e differs) (let a : cuts_of e steps ≤ cuts_in (u.of e).state = tracks.cuts e in omega arith)) d);
         no_cut = λ none. (none, refl);
+        cut = λ cut. inl cut;
+        few = (let fewer = length-forgotten c h.kept in let few = tracks.few in omega arith);
         fronts = at_numbers c (λ d. IsFront after d (v.of d))
             (subst (λ (x : Session W). IsFront after c x) (sym is) (front_as journal after c (u.of c) (still c).taken (front c)))
             (λ d differs. subst (λ (x : Session W). IsFront after d x) (sym (other d differs)) (front_as journal after d (u.of d) (still d).taken (front d)));
@@ -108,6 +111,7 @@ module _ {T W : Type 0} (r : Rules T W) (t : T) where
             may = subst (λ (x : Session W). MayHangUp x.state after c x) (sym is) ((still c).hung ∙ works.hung c ∙ held_not_away (u.of c).state there);
             hung = λ d differs. (still d).hung ∙ works.hung d ∙ ap (λ (x : Session W). is_away x.state) (sym (other d differs));
             unturned = λ d differs. ap (λ (x : Session W). is_turned x.state) (other d differs) ∙ works.unturned d;
+            placed = λ d differs listed. ap (λ (x : Session W). session.is_held x.state) (other d differs) ∙ works.placed d listed;
             stands = λ d differs apart. subst (λ (x : Session W). Stands x.state after d x) (sym (other d differs))
                 (stands_more (u.of d).state journal after d (u.of d) (still d) (was_later-more d journal i (about-gone c).events) (works.stands d (grind (arith, nat_tests))));
             replay = λ all. absurd (refusal_is journal c all);

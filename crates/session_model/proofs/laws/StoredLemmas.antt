@@ -182,6 +182,7 @@ module _ {T W : Type 0} (r : Rules T W) (t : T) where
         });
         hung = λ d. (still d).hung ∙ works.hung d;
         unturned = works.unturned;
+        placed = works.placed;
         stands = λ d apart. stands_more (u.of d).state journal after d (u.of d) (still d) (was_later-more d journal i refl) (works.stands d apart);
         replay = λ all. (let before = works.replay (all_taken-front journal i all) in record { same = before.same; taken = λ d unheld. (still d).taken ∙ before.taken d unheld });
       }

@@ -1,19 +1,20 @@
 -- What is tracked, with one item more.
-use Rattle.std.proofs.Common.{◌≡◌, ◌≢◌, ◌≤◌, ℕ, Bool, true, false, cond, List, [], ◌∷◌, ◌++◌, length, map, refl, ap, sym, ◌∙◌, append-nil, arith, subst, ap₂}
+use Rattle.std.proofs.Common.{◌≡◌, ◌≢◌, ◌≤◌, ◌<◌, ◌+◌, ◌⊎◌, inl, inr, ℕ, Bool, true, false, cond, List, [], ◌∷◌, ◌++◌, length, map, refl, ap, sym, ◌∙◌, append-nil, add_assoc, arith, subst, ap₂}
 use Rattle.std.proofs.lemmas.List.{map-append}
 use Rattle.wire_io.specs.declared.journal.Item.{Item}
 use Rattle.wire_io.specs.Journal.{taken_of, stored_of, is_hung_up, is_held, hold_after_all, was_opened, opens}
 use Rattle.wire_io.proofs.Theorems.{was_opened-quiet}
 use Rattle.session_model.specs.Rules.{Rules}
-use Rattle.session_model.specs.Run.{Session, Sessions, State, Open, Closing, TurnedAway, Away, Unopened, Step, step, run, run_from, start, held_numbers}
+use Rattle.session_model.specs.Run.{Session, Sessions, State, Open, Closing, TurnedAway, Away, Unopened, Step, step, run, run_from, start, held_numbers, most_held}
 use Rattle.session_model.specs.Run as session
 use Rattle.session_model.specs.Kept.{Held, queue_of, closing_of}
 use Rattle.session_model.specs.Keeping.{Keeps, is_listed}
-use Rattle.session_model.specs.Journaled.{steps_of, step_of_item, StepsOf, uncut, HasNoCut, cuts_of, CutOnce, AtEachMoment, AtEachItem}
+use Rattle.session_model.specs.Journaled.{steps_of, step_of_item, StepsOf, uncut, HasNoCut, HasCut, cuts_of, cuts_at, CutOnce, AtEachMoment, AtEachItem}
 use Rattle.session_model.specs.Serving.{IsFront, unsent, AreFronts, IsSettled, Rightly, Stands}
 use Rattle.session_model.specs.Replaying.{is_leaving, replayed_from}
 use Rattle.session_model.specs.Working.{Tracks, Works, cuts_in, is_turned}
 use Rattle.session_model.proofs.laws.KeptLemmas.{queue_in, closing_in, queue_of_is, closing_of_is}
+use Rattle.session_model.proofs.laws.KeepingLemmas.{length-kept}
 use Rattle.session_model.proofs.laws.JournalLemmas.{steps_of-one}
 use Rattle.session_model.proofs.laws.MomentLemmas.{AtEachMoment-more, AtEachItem-more, nothing_before, nothing_joined}
 use Rattle.session_model.proofs.laws.StepLemmas.{run_from-append}
@@ -25,6 +26,16 @@ cuts_in-one Open = omega arith
 cuts_in-one Closing = omega arith
 cuts_in-one TurnedAway = omega arith
 cuts_in-one Away = omega arith
+
+cuts_of-append : (d : ℕ) (steps more : List Step) → cuts_of d (steps ++ more) ≡ cuts_of d steps + cuts_of d more
+unfolding cuts_of
+cuts_of-append d [] more = omega arith
+cuts_of-append d (s ∷ steps) more = ap (λ n. cuts_at d s + n) (cuts_of-append d steps more) ∙ sym (add_assoc (cuts_at d s) (cuts_of d steps) (cuts_of d more))
+
+-- a step was cut before, or is now
+HasCut-append : (steps more : List Step) (P : Type 0) → (P → HasCut steps) → P ⊎ HasCut more → HasCut (steps ++ more)
+HasCut-append steps more P before (inl p) = let old = before p in record { number = old.number; cut = rw (cuts_of-append old.number steps more) (let some = old.cut in omega arith) }
+HasCut-append steps more P before (inr new) = record { number = new.number; cut = rw (cuts_of-append new.number steps more) (let some = new.cut in omega arith) }
 
 module _ {T W : Type 0} (r : Rules T W) (t : T) where
   -- what may come next, of the sessions themselves
@@ -42,6 +53,8 @@ module _ {T W : Type 0} (r : Rules T W) (t : T) where
     pub fresh : (d : ℕ) → is_listed d v.opened ≡ false → (v.of d).state ≡ Unopened
     pub cuts : (d : ℕ) → cuts_of d (steps ++ more) ≤ cuts_in (v.of d).state
     pub no_cut : h'.was_cut ≡ false → (h.was_cut ≡ false) × HasNoCut more
+    pub cut : h'.was_cut ≡ true → (h.was_cut ≡ true) ⊎ HasCut more
+    pub few : length h'.kept ≤ most_held
     pub fronts : (d : ℕ) → IsFront (journal ++ i ∷ []) d (v.of d)
     pub right : RightlyNow u journal i
 
@@ -62,6 +75,8 @@ module _ {T W : Type 0} (r : Rules T W) (t : T) where
         fresh = goes.fresh;
         cuts = goes.cuts;
         no_cut = λ none. map-append uncut steps more ∙ ap₂ (λ xs ys. xs ++ ys) (tracks.no_cut (goes.no_cut none).0) (goes.no_cut none).1;
+        cut = λ cut. HasCut-append steps more (h.was_cut ≡ true) tracks.cut (goes.cut cut);
+        few = goes.few;
         sound = record {
           are = are;
           once = λ d. (let a : cuts_of d (steps ++ more) ≤ cuts_in (v.of d).state = goes.cuts d in let b = cuts_in-one (v.of d).state in omega arith);
@@ -98,6 +113,8 @@ module _ {T W : Type 0} (r : Rules T W) (t : T) where
         fresh = tracks.fresh;
         cuts = λ d. subst (λ xs. cuts_of d xs ≤ cuts_in (u.of d).state) (sym (append-nil steps)) (tracks.cuts d);
         no_cut = λ none. (sym stays.no_cut ∙ none, refl);
+        cut = λ cut. inl (sym stays.no_cut ∙ cut);
+        few = (let as_many : length h'.kept ≡ length h.kept = length-kept r u _ h' stays.keeps ∙ sym (length-kept r u _ h tracks.keeps) in let few = tracks.few in omega arith);
         fronts = stays.fronts;
         right = stays.right;
       }))
@@ -152,6 +169,8 @@ module _ {T W : Type 0} (r : Rules T W) (t : T) where
         fresh = λ c _. refl;
         cuts = λ c. omega arith;
         no_cut = λ _. refl;
+        cut = λ cut. cc;
+        few = omega arith;
         sound = record {
           are = refl;
           once = λ c. omega arith;
@@ -174,6 +193,7 @@ module _ {T W : Type 0} (r : Rules T W) (t : T) where
         tracks = tracks_start;
         hung = λ c. refl;
         unturned = λ c. refl;
+        placed = λ c listed. cc;
         stands = λ c _. refl;
         replay = λ _. record { same = refl; taken = λ c _. refl };
       }

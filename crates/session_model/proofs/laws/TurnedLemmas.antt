@@ -1,5 +1,5 @@
 -- A connection that opens begins a block where there is room; where there is none it is hung up at once.
-use Rattle.std.proofs.Common.{◌≡◌, ◌≢◌, ◌≤◌, ◌+◌, ℕ, nat_lt, Bool, true, false, cond, List, [], ◌∷◌, ◌++◌, length, refl, ap, sym, ◌∙◌, append-nil, arith, subst}
+use Rattle.std.proofs.Common.{◌≡◌, ◌≢◌, ◌≤◌, ◌+◌, ℕ, nat_lt, Bool, true, false, cond, not, ◌||◌, inl, List, [], ◌∷◌, ◌++◌, length, length-append, refl, ap, sym, ◌∙◌, append-nil, arith, subst}
 use Rattle.std.proofs.lemmas.Bool.Decides.{nat_tests}
 use Rattle.wire_io.specs.declared.journal.Event.TheVariants as event
 use Rattle.wire_io.specs.declared.journal.Item.{Item}
@@ -8,7 +8,7 @@ use Rattle.wire_io.specs.Journal.{taken_of, stored_at, is_hung_up, was_opened, o
 use Rattle.session_model.specs.Rules.{Rules}
 use Rattle.session_model.specs.Run.{Session, Sessions, Open, TurnedAway, Unopened, Step, Opened, step, start, held_numbers, most_held, newcomer}
 use Rattle.session_model.specs.Run as session
-use Rattle.session_model.specs.Kept.{Held, forgotten}
+use Rattle.session_model.specs.Kept.{Kept, Held, forgotten, is_kept, kept_of, opened_kept}
 use Rattle.session_model.specs.Kept as kept
 use Rattle.session_model.specs.Keeping.{is_listed}
 use Rattle.session_model.specs.Journaled.{cuts_of, all_taken}
@@ -28,6 +28,16 @@ use Rattle.session_model.proofs.laws.ItemLemmas.{leaves_works, puts_none}
 pub none_taken : (xs : List ℕ) → length xs ≤ 0 → xs ≡ []
 none_taken [] h = refl
 none_taken (x ∷ xs) h = absurd (omega arith)
+
+-- one more is held where there is room
+with_room : {W : Type 0} (there : Bool) (ks : List (Kept W)) (k : Kept W) → length ks ≤ most_held →
+    length (cond (there || not (nat_lt (length ks) most_held)) ks (ks ++ k ∷ [])) ≤ most_held
+with_room true ks k few = few
+with_room false ks k few = by_room (nat_lt (length ks) most_held) refl
+  where
+    by_room : (b : Bool) → nat_lt (length ks) most_held ≡ b → length (cond (not b) ks (ks ++ k ∷ [])) ≤ most_held
+    by_room true room = let more = length-append ks (k ∷ []) in grind (arith, nat_tests)
+    by_room false full = few
 
 module _ {T W : Type 0} (r : Rules T W) (t : T) where
   -- what is known of sessions in which another has just opened
@@ -75,6 +85,8 @@ module _ {T W : Type 0} (r : Rules T W) (t : T) where
               (let a : cuts_of c works.steps ≤ 0 = subst (λ st. cuts_of c works.steps ≤ cuts_in st) unopened (works.tracks.cuts c) in omega arith)
               (λ e differs. rw (other e differs) (let a : cuts_of e works.steps ≤ cuts_in (u.of e).state = works.tracks.cuts e in omega arith)) d);
           no_cut = λ none. (no_cut_opened none, refl);
+          cut = λ cut. inl (cut_opened cut);
+          few = few_opened works.tracks.few;
           fronts = at_numbers c (λ d. IsFront after d (v.of d))
               (front_more journal after c (u.of c) (v.of c) [] (still c).taken (front c) (reply ∙ sym empty ∙ sym (append-nil (u.of c).reply)))
               (λ d differs. subst (λ (x : Session W). IsFront after d x) (sym (other d differs)) (front_as journal after d (u.of d) (still d).taken (front d)));
@@ -89,6 +101,12 @@ module _ {T W : Type 0} (r : Rules T W) (t : T) where
     where
       no_cut_opened : (kept.heard r (Opened c) h).was_cut ≡ false → h.was_cut ≡ false
       no_cut_opened none = none
+
+      cut_opened : (kept.heard r (Opened c) h).was_cut ≡ true → h.was_cut ≡ true
+      cut_opened cut = cut
+
+      few_opened : length h.kept ≤ most_held → length (kept.heard r (Opened c) h).kept ≤ most_held
+      few_opened few = with_room (is_kept (kept_of c h.kept)) h.kept (opened_kept r c) few
 
   -- the journal is right so far
   pub opened_leads : (h : Held T W) (on_hold : List ℕ) (journal : List Item) (c : ℕ) → was_opened c journal ≡ false → Works r t [] h on_hold journal →
@@ -136,6 +154,8 @@ module _ {T W : Type 0} (r : Rules T W) (t : T) where
             ((still c).hung ∙ works.hung c ∙ ap is_away (works.tracks.fresh c unlisted) ∙ sym (ap is_away is_open))
             (λ d differs. (still d).hung ∙ works.hung d ∙ ap (λ (x : Session W). is_away x.state) (sym (has.other d differs)));
         unturned = at_numbers c (λ d. is_turned (v.of d).state ≡ false) (ap is_turned is_open) (λ d differs. ap (λ (x : Session W). is_turned x.state) (has.other d differs) ∙ works.unturned d);
+        placed = at_numbers c (λ d. is_listed d on_hold ≡ true → session.is_held (v.of d).state ≡ true) (λ _. ap session.is_held is_open)
+            (λ d differs listed. ap (λ (x : Session W). session.is_held x.state) (has.other d differs) ∙ works.placed d listed);
         stands = λ d apart. (let is = not_due d c ws apart in
             subst (λ (x : Session W). Stands x.state after d x) (sym (has.other d is.0))
             (stands_free (u.of d).state journal after d (u.of d) (still d) (works.tracks.holds d ∙ covers.covers d is.1) (works.stands d refl)));
@@ -159,6 +179,7 @@ module _ {T W : Type 0} (r : Rules T W) (t : T) where
         may = subst (λ st. MayHangUp st after c (v.of c)) (sym turned) tt;
         hung = λ d differs. (still d).hung ∙ works.hung d ∙ ap (λ (x : Session W). is_away x.state) (sym (has.other d differs));
         unturned = λ d differs. ap (λ (x : Session W). is_turned x.state) (has.other d differs) ∙ works.unturned d;
+        placed = λ d differs listed. ap (λ (x : Session W). session.is_held x.state) (has.other d differs) ∙ works.placed d listed;
         stands = λ d differs apart. subst (λ (x : Session W). Stands x.state after d x) (sym (has.other d differs))
             (stands_free (u.of d).state journal after d (u.of d) (still d) (works.tracks.holds d ∙ covers.covers d apart) (works.stands d refl));
         replay = λ all. (replays_opened h on_hold journal c new works all, ap is_leaving turned, has.taken ∙ sym has.reply);
