@@ -121,34 +121,36 @@ impl Link for HalfSlow {
 
     ghost lost = { λ _. 0 };
 
+    ghost refusals = { λ _. 0 };
+
     fn end_idle_after(&mut self, _seconds: u64) {}
 
-    #[tactic(auto, unfolding(wire_io::specs::link::Telling::OpenTells, wire_io::specs::Answers::LinkCause, wire_io::specs::Answers::IsPlanned))]
+    #[tactic(auto, unfolding(wire_io::specs::link::Telling::OpenTells, wire_io::specs::Answers::LinkCause, wire_io::specs::Answers::RefusalCause, wire_io::specs::Answers::IsPlanned))]
     fn open(&mut self, _address: &str, _sessions: u64) -> Result<(), NextFault> {
         Ok(())
     }
 
-    #[tactic(auto, unfolding(wire_io::specs::link::Telling::StoreOpenTells, wire_io::specs::Answers::LinkCause, wire_io::specs::Answers::IsPlanned))]
+    #[tactic(auto, unfolding(wire_io::specs::link::Telling::StoreOpenTells, wire_io::specs::Answers::LinkCause, wire_io::specs::Answers::RefusalCause, wire_io::specs::Answers::IsPlanned))]
     fn open_store(&mut self, _name: &str) -> Result<(), NextFault> {
         Ok(())
     }
 
-    #[tactic(auto, unfolding(wire_io::specs::link::Telling::NoteTells, wire_io::specs::Answers::LinkCause, wire_io::specs::Answers::IsPlanned))]
+    #[tactic(auto, unfolding(wire_io::specs::link::Telling::NoteTells, wire_io::specs::Answers::LinkCause, wire_io::specs::Answers::RefusalCause, wire_io::specs::Answers::IsPlanned))]
     fn cut_store(&mut self, _length: u64) -> Result<(), NextFault> {
         Ok(())
     }
 
-    #[tactic(auto, unfolding(wire_io::specs::link::Telling::NoteTells, wire_io::specs::Answers::LinkCause, wire_io::specs::Answers::IsPlanned))]
+    #[tactic(auto, unfolding(wire_io::specs::link::Telling::NoteTells, wire_io::specs::Answers::LinkCause, wire_io::specs::Answers::RefusalCause, wire_io::specs::Answers::IsPlanned))]
     fn store(&mut self, _octets: &[u8]) -> Result<(), NextFault> {
         Ok(())
     }
 
-    #[tactic(auto, unfolding(wire_io::specs::Answers::LinkCause, wire_io::specs::Answers::IsPlanned))]
+    #[tactic(auto, unfolding(wire_io::specs::Answers::LinkCause, wire_io::specs::Answers::RefusalCause, wire_io::specs::Answers::IsPlanned))]
     fn sync_store(&mut self) -> Result<(), NextFault> {
         Ok(())
     }
 
-    #[tactic(auto, unfolding(wire_io::specs::link::Telling::NextTells, wire_io::specs::Playing::NextPlays, wire_io::specs::Answers::LinkCause, wire_io::specs::Answers::IsPlanned))]
+    #[tactic(auto, unfolding(wire_io::specs::link::Telling::NextTells, wire_io::specs::Playing::NextPlays, wire_io::specs::Answers::LinkCause, wire_io::specs::Answers::RefusalCause, wire_io::specs::Answers::IsPlanned))]
     fn next(&mut self, buf: &mut [u8]) -> Result<Heard, NextFault> {
         let turn = self.given;
         if turn >= 1024 {
@@ -165,7 +167,7 @@ impl Link for HalfSlow {
         Ok(Heard::Idle)
     }
 
-    #[tactic(auto, unfolding(wire_io::specs::link::Telling::TookTells, wire_io::specs::Answers::WriteCause, wire_io::specs::Answers::IsPlanned))]
+    #[tactic(auto, unfolding(wire_io::specs::link::Telling::TookTells, wire_io::specs::Answers::WriteCause, wire_io::specs::Answers::WriteRefusal, wire_io::specs::Answers::IsPlanned))]
     fn write(&mut self, conn: u32, bytes: &[u8]) -> Took {
         match self.writes.get_mut(conn as usize) {
             None => Took::Later,
@@ -180,17 +182,17 @@ impl Link for HalfSlow {
         }
     }
 
-    #[tactic(auto, unfolding(wire_io::specs::link::Telling::NoteTells))]
+    #[tactic(auto, unfolding(wire_io::specs::link::Telling::NoteTells, wire_io::specs::Answers::NoteRefusal))]
     fn hold(&mut self, _conn: u32) -> Result<(), NoMemory> {
         Ok(())
     }
 
-    #[tactic(auto, unfolding(wire_io::specs::link::Telling::NoteTells))]
+    #[tactic(auto, unfolding(wire_io::specs::link::Telling::NoteTells, wire_io::specs::Answers::NoteRefusal))]
     fn release(&mut self, _conn: u32) -> Result<(), NoMemory> {
         Ok(())
     }
 
-    #[tactic(auto, unfolding(wire_io::specs::link::Telling::NoteTells))]
+    #[tactic(auto, unfolding(wire_io::specs::link::Telling::NoteTells, wire_io::specs::Answers::NoteRefusal))]
     fn hang_up(&mut self, _conn: u32) -> Result<(), NoMemory> {
         Ok(())
     }

@@ -9,6 +9,7 @@ use crate::updates::{ADD, DELETE, site};
 use session_hub::{Bounds, Ended, Terms, serve_loop};
 use std::alloc::Global;
 use std::test::Fail;
+use wire_io::plain_values::raised;
 use wire_io::{Heard, Link, NextFault, NoMemory, Took};
 
 // A call of a link that stores or takes octets.
@@ -34,6 +35,7 @@ struct Keeper {
     given: usize,
     refuses: Refused,
     faults: u64,
+    refusals: u64,
     calls: Vec<Call>,
     stored: Vec<u8>,
 }
@@ -45,6 +47,7 @@ impl Keeper {
             given: 0,
             refuses,
             faults: 0,
+            refusals: 0,
             calls: Vec::new(alloc),
             stored: Vec::new(alloc),
         }
@@ -54,6 +57,7 @@ impl Keeper {
     fn refuses(&mut self, call: Refused) -> bool
         ensures refused { result ≡ true → Rose self.old.faults self.new.faults }
         ensures kept { result ≡ false → self.new.faults ≡ self.old.faults }
+        ensures refusals { self.new.refusals ≡ self.old.refusals }
     {
         let is_refused = self.refuses == call && self.faults == 0;
         if is_refused {
@@ -85,24 +89,26 @@ impl Link for Keeper {
 
     ghost lost = { λ _. 0 };
 
+    ghost refusals = { λ keeper. keeper.refusals };
+
     fn end_idle_after(&mut self, _seconds: u64) {}
 
-    #[tactic(auto, unfolding(wire_io::specs::link::Telling::OpenTells, wire_io::specs::Answers::LinkCause, wire_io::specs::Answers::IsPlanned))]
+    #[tactic(auto, unfolding(wire_io::specs::link::Telling::OpenTells, wire_io::specs::Answers::LinkCause, wire_io::specs::Answers::RefusalCause, wire_io::specs::Answers::IsPlanned))]
     fn open(&mut self, _address: &str, _sessions: u64) -> Result<(), NextFault> {
         Ok(())
     }
 
-    #[tactic(auto, unfolding(wire_io::specs::link::Telling::StoreOpenTells, wire_io::specs::Answers::LinkCause, wire_io::specs::Answers::IsPlanned))]
+    #[tactic(auto, unfolding(wire_io::specs::link::Telling::StoreOpenTells, wire_io::specs::Answers::LinkCause, wire_io::specs::Answers::RefusalCause, wire_io::specs::Answers::IsPlanned))]
     fn open_store(&mut self, _name: &str) -> Result<(), NextFault> {
         Ok(())
     }
 
-    #[tactic(auto, unfolding(wire_io::specs::link::Telling::NoteTells, wire_io::specs::Answers::LinkCause, wire_io::specs::Answers::IsPlanned))]
+    #[tactic(auto, unfolding(wire_io::specs::link::Telling::NoteTells, wire_io::specs::Answers::LinkCause, wire_io::specs::Answers::RefusalCause, wire_io::specs::Answers::IsPlanned))]
     fn cut_store(&mut self, _length: u64) -> Result<(), NextFault> {
         Ok(())
     }
 
-    #[tactic(auto, unfolding(wire_io::specs::link::Telling::NoteTells, wire_io::specs::Answers::LinkCause, wire_io::specs::Answers::IsPlanned))]
+    #[tactic(auto, unfolding(wire_io::specs::link::Telling::NoteTells, wire_io::specs::Answers::LinkCause, wire_io::specs::Answers::RefusalCause, wire_io::specs::Answers::IsPlanned))]
     fn store(&mut self, octets: &[u8]) -> Result<(), NextFault> {
         if self.refuses(Refused::Store) {
             return Err(NextFault::Failed);
@@ -110,12 +116,13 @@ impl Link for Keeper {
         if self.calls.push(Call::Stored).is_err()
             || self.stored.extend_from_slice(octets).is_err()
         {
+            self.refusals = raised(self.refusals);
             return Err(NextFault::NoMemory);
         }
         Ok(())
     }
 
-    #[tactic(auto, unfolding(wire_io::specs::Answers::LinkCause, wire_io::specs::Answers::IsPlanned))]
+    #[tactic(auto, unfolding(wire_io::specs::Answers::LinkCause, wire_io::specs::Answers::RefusalCause, wire_io::specs::Answers::IsPlanned))]
     fn sync_store(&mut self) -> Result<(), NextFault> {
         if self.given == 2 && self.refuses(Refused::Sync) {
             return Err(NextFault::Failed);
@@ -123,7 +130,7 @@ impl Link for Keeper {
         Ok(())
     }
 
-    #[tactic(auto, unfolding(wire_io::specs::link::Telling::NextTells, wire_io::specs::Playing::NextPlays, wire_io::specs::Answers::LinkCause, wire_io::specs::Answers::IsPlanned))]
+    #[tactic(auto, unfolding(wire_io::specs::link::Telling::NextTells, wire_io::specs::Playing::NextPlays, wire_io::specs::Answers::LinkCause, wire_io::specs::Answers::RefusalCause, wire_io::specs::Answers::IsPlanned))]
     fn next(&mut self, buf: &mut [u8]) -> Result<Heard, NextFault> {
         let turn = self.given;
         self.given = turn.saturating_add(1);
@@ -136,25 +143,28 @@ impl Link for Keeper {
         }
     }
 
-    #[tactic(auto, unfolding(wire_io::specs::link::Telling::TookTells, wire_io::specs::Answers::WriteCause, wire_io::specs::Answers::IsPlanned))]
+    #[tactic(auto, unfolding(wire_io::specs::link::Telling::TookTells, wire_io::specs::Answers::WriteCause, wire_io::specs::Answers::WriteRefusal, wire_io::specs::Answers::IsPlanned))]
     fn write(&mut self, _conn: u32, bytes: &[u8]) -> Took {
         match self.calls.push(Call::Took) {
             Ok(()) => Took::Took(bytes.len()),
-            Err(_) => Took::NoMemory,
+            Err(_) => {
+                self.refusals = raised(self.refusals);
+                Took::NoMemory
+            }
         }
     }
 
-    #[tactic(auto, unfolding(wire_io::specs::link::Telling::NoteTells))]
+    #[tactic(auto, unfolding(wire_io::specs::link::Telling::NoteTells, wire_io::specs::Answers::NoteRefusal))]
     fn hold(&mut self, _conn: u32) -> Result<(), NoMemory> {
         Ok(())
     }
 
-    #[tactic(auto, unfolding(wire_io::specs::link::Telling::NoteTells))]
+    #[tactic(auto, unfolding(wire_io::specs::link::Telling::NoteTells, wire_io::specs::Answers::NoteRefusal))]
     fn release(&mut self, _conn: u32) -> Result<(), NoMemory> {
         Ok(())
     }
 
-    #[tactic(auto, unfolding(wire_io::specs::link::Telling::NoteTells))]
+    #[tactic(auto, unfolding(wire_io::specs::link::Telling::NoteTells, wire_io::specs::Answers::NoteRefusal))]
     fn hang_up(&mut self, _conn: u32) -> Result<(), NoMemory> {
         Ok(())
     }
