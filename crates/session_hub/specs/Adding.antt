@@ -1,5 +1,5 @@
 -- What one call within a loop adds to a link's journal, for the loop's own functions alone.
-use Rattle.std.specs.Prelude.{◌≡◌, ◌≤◌, ℕ, Bool, true, false, List, [], ◌∷◌, ◌++◌, length, Option, Some, Result, Ok, Err}
+use Rattle.std.specs.Prelude.{◌≡◌, ◌≤◌, ◌⊎◌, ℕ, Bool, true, false, List, [], ◌∷◌, ◌++◌, length, Option, Some, Result, Ok, Err}
 use Rattle.dir_tree.specs.plain_values.Counts.{Rose, NeverFalls}
 use Rattle.session_model.specs.wire_io.declared.answers.Heard.{Heard as Answer}
 use Rattle.session_model.specs.wire_io.declared.answers.Heard.TheVariants as answer
@@ -37,17 +37,34 @@ Adds plan claim next_claim before after =
     (begun added : List Item) → before ≡ Some (begun ++ added) →
     (more : List Item) × (after ≡ Some (begun ++ (added ++ more))) × IsBlock plan more × (claim added → next_claim (added ++ more))
 
--- a call that serves keeps the plan and the count of faults, and no connection that was lost comes back
-pub record OnlyServes (plan_old plan_new : Option Plan) (faults_old faults_new lost_old lost_new : ℕ) : Type 0 where
+-- a call that serves keeps the plan and the count of faults, no connection that was lost comes back, and no refusal of the
+-- link is taken back
+pub record OnlyServes (plan_old plan_new : Option Plan) (faults_old faults_new lost_old lost_new refusals_old refusals_new : ℕ) : Type 0 where
   pub plan : plan_new ≡ plan_old
   pub faults : faults_new ≡ faults_old
   pub lost : NeverFalls lost_old lost_new
+  pub refusals : NeverFalls refusals_old refusals_new
 
 -- when each answer of a call that stores and serves comes: a fault is the link's, where there was something to be stored
 abbrev pub StoreCause : {X : Type 0} → Type 0 → Option Plan → ℕ → ℕ → Result X NextFault → Type 0
 StoreCause stores plan before after (Ok value) = after ≡ before
 StoreCause stores plan before after (Err Failed) = Rose before after × IsPlanned (λ plan. plan.failing) plan × stores
 StoreCause stores plan before after (Err NoMemory) = after ≡ before
+
+-- whether an answer of a link opens a connection
+abbrev pub IsOpening : Answer → Type 0
+IsOpening (answer.Opened number) = Unit {0}
+IsOpening (answer.Bytes number count) = ⊥
+IsOpening (answer.Ended number) = ⊥
+IsOpening (answer.Ready number) = ⊥
+IsOpening answer.Idle = ⊥
+IsOpening answer.Stop = ⊥
+
+-- the block of an event ends for want of memory where the event opened a connection, or where the link had none
+abbrev pub BlockRefusal : {X : Type 0} → Answer → ℕ → ℕ → Result X NextFault → Type 0
+BlockRefusal given before after (Ok value) = NeverFalls before after
+BlockRefusal given before after (Err Failed) = NeverFalls before after
+BlockRefusal given before after (Err NoMemory) = NeverFalls before after × (IsOpening given ⊎ Rose before after)
 
 -- these are still due, and all others stand as they have to
 abbrev pub IsServing : Terms → DirectoryEntries → List ℕ → Held DirectoryEntries Requester → List ℕ → List Item → Type 0

@@ -1,9 +1,9 @@
 //! The beginning of a block: an event of a link is heard.
 
-ghost use Rattle.std.specs.Prelude.{◌≡◌, ◌≢◌, ℕ, List, [], length, true, false, OnOk};
+ghost use Rattle.std.specs.Prelude.{◌≡◌, ◌≢◌, ℕ, List, [], length, true, false, OnOk, OnErr};
 ghost use Rattle.dir_tree.specs.tree.Numbered.{entries_of};
 ghost use Rattle.dir_tree.specs.plain_values.Counts.{NeverFalls};
-ghost use Rattle.session_model.specs.wire_io.Answers.{HeardFits};
+ghost use Rattle.session_model.specs.wire_io.Answers.{HeardFits, RefusalCause};
 ghost use Rattle.session_model.specs.wire_io.link.Telling.{event_of};
 ghost use Rattle.session_model.specs.wire_io.declared.journal.Event.TheVariants as event;
 ghost use Rattle.session_model.specs.wire_io.declared.journal.Item.{Item};
@@ -11,7 +11,7 @@ ghost use Rattle.session_hub.specs.Parties.{DirectoryEntries};
 ghost use Rattle.session_hub.specs.Terms.{Terms};
 ghost use Rattle.session_hub.specs.hub.Hubs.{held};
 ghost use Rattle.session_hub.specs.Telling.{journal_event_of, IsOf};
-ghost use Rattle.session_hub.specs.Adding.{Adds, OnlyServes, StoreCause, IsServing, IsHeard, IsTurnedAway, After};
+ghost use Rattle.session_hub.specs.Adding.{Adds, OnlyServes, StoreCause, BlockRefusal, IsOpening, IsServing, IsHeard, IsTurnedAway, After};
 
 use crate::serving::settle_all;
 use crate::waiting::Waiting;
@@ -34,7 +34,8 @@ fn greet<D: Dir, L: Link>(
         (After hub.old.bounds.terms result start (entries_of (D.rows dir.new)) (IsServing hub.old.bounds.terms start waiting.new.due.items
         (held (entries_of (D.rows dir.new)) hub.new) waiting.new.on_hold.items))
         (L.journal link.old) (L.journal link.new) }
-    ensures serves { OnlyServes (L.plan link.old) (L.plan link.new) (L.faults link.old) (L.faults link.new) (L.lost link.old) (L.lost link.new) }
+    ensures serves { OnlyServes (L.plan link.old) (L.plan link.new) (L.faults link.old) (L.faults link.new) (L.lost link.old) (L.lost link.new)
+        (L.refusals link.old) (L.refusals link.new) }
     ensures bounds { hub.new.bounds ≡ hub.old.bounds }
     ensures unkept { hub.old.bounds.terms.keeps ≡ false → hub.new.unstored ≡ hub.old.unstored }
 {
@@ -43,7 +44,8 @@ fn greet<D: Dir, L: Link>(
         Err(_) => Err(AllocError),
         Ok(()) => {
             if has_room {
-                waiting.begin_with(conn)
+                waiting.begin_with(conn);
+                Ok(())
             } else {
                 turn_away(hub, waiting, link, conn)
             }
@@ -51,6 +53,7 @@ fn greet<D: Dir, L: Link>(
     }
 }
 
+#[tactic(auto, unfolding(session_model::specs::wire_io::Answers::NoteRefusal))]
 /// Hangs up a connection for which there is no room.
 fn turn_away<L: Link>(
     hub: &mut Hub,
@@ -62,7 +65,8 @@ fn turn_away<L: Link>(
         (IsTurnedAway terms start conn (held tree hub.old) waiting.old.on_hold.items)
         (After terms result start tree (IsServing terms start waiting.new.due.items (held tree hub.new) waiting.new.on_hold.items))
         (L.journal link.old) (L.journal link.new) }
-    ensures serves { OnlyServes (L.plan link.old) (L.plan link.new) (L.faults link.old) (L.faults link.new) (L.lost link.old) (L.lost link.new) }
+    ensures serves { OnlyServes (L.plan link.old) (L.plan link.new) (L.faults link.old) (L.faults link.new) (L.lost link.old) (L.lost link.new)
+        (L.refusals link.old) (L.refusals link.new) }
     ensures bounds { hub.new.bounds ≡ hub.old.bounds }
     ensures unstored { hub.new.unstored ≡ hub.old.unstored }
 {
@@ -70,7 +74,8 @@ fn turn_away<L: Link>(
         Err(_) => Err(AllocError),
         Ok(()) => {
             hub.drop_conn(conn);
-            waiting.begin()
+            waiting.begin();
+            Ok(())
         }
     }
 }
@@ -91,9 +96,13 @@ fn hear_on<D: Dir>(
         (held (entries_of (D.rows dir.new)) hub.new) waiting.new.on_hold.items) added }
     ensures bounds { hub.new.bounds ≡ hub.old.bounds }
     ensures unkept { hub.old.bounds.terms.keeps ≡ false → hub.new.unstored ≡ hub.old.unstored }
+    ensures never { OnErr result ⊥ }
 {
     match hub.hear(dir, heard) {
-        Ok(()) => waiting.begin_with(conn),
+        Ok(()) => {
+            waiting.begin_with(conn);
+            Ok(())
+        }
         Err(_) => Err(AllocError),
     }
 }
@@ -114,9 +123,11 @@ fn begin_block<D: Dir, L: Link>(
         (After hub.old.bounds.terms result start (entries_of (D.rows dir.new)) (IsServing hub.old.bounds.terms start waiting.new.due.items
         (held (entries_of (D.rows dir.new)) hub.new) waiting.new.on_hold.items))
         (L.journal link.old) (L.journal link.new) }
-    ensures serves { OnlyServes (L.plan link.old) (L.plan link.new) (L.faults link.old) (L.faults link.new) (L.lost link.old) (L.lost link.new) }
+    ensures serves { OnlyServes (L.plan link.old) (L.plan link.new) (L.faults link.old) (L.faults link.new) (L.lost link.old) (L.lost link.new)
+        (L.refusals link.old) (L.refusals link.new) }
     ensures bounds { hub.new.bounds ≡ hub.old.bounds }
     ensures unkept { hub.old.bounds.terms.keeps ≡ false → hub.new.unstored ≡ hub.old.unstored }
+    ensures opens { OnErr result (IsOpening heard) }
 {
     match heard {
         Heard::Opened(conn) => greet(hub, dir, waiting, link, conn),
@@ -125,12 +136,22 @@ fn begin_block<D: Dir, L: Link>(
             hear_on(hub, dir, waiting, conn, Event::Bytes(conn, piece))
         }
         Heard::Ended(conn) => hear_on(hub, dir, waiting, conn, Event::Ended(conn)),
-        Heard::Ready(_) => waiting.begin(),
-        Heard::Idle => waiting.begin(),
-        Heard::Stop => waiting.begin(),
+        Heard::Ready(_) => {
+            waiting.begin();
+            Ok(())
+        }
+        Heard::Idle => {
+            waiting.begin();
+            Ok(())
+        }
+        Heard::Stop => {
+            waiting.begin();
+            Ok(())
+        }
     }
 }
 
+#[tactic(auto, unfolding(session_model::specs::wire_io::Answers::RefusalCause))]
 /// Has the link store the changes that aren't stored yet, if there are any.
 fn store_changes<L: Link>(hub: &mut Hub, link: &mut L) -> Result<(), NextFault>
     ensures adds { (terms : Terms) (start tree : DirectoryEntries) (due on_hold : List ℕ) → Adds (L.plan link.old)
@@ -140,6 +161,7 @@ fn store_changes<L: Link>(hub: &mut Hub, link: &mut L) -> Result<(), NextFault>
     ensures stored { OnOk result (hub.new.unstored ≡ []) }
     ensures cause { StoreCause (hub.old.unstored ≢ []) (L.plan link.old) (L.faults link.old) (L.faults link.new) result }
     ensures plan { L.plan link.new ≡ L.plan link.old }
+    ensures refusals { RefusalCause (L.refusals link.old) (L.refusals link.new) result }
     ensures lost { NeverFalls (L.lost link.old) (L.lost link.new) }
     ensures bounds { hub.new.bounds ≡ hub.old.bounds }
 {
@@ -165,6 +187,7 @@ fn end_block<L: Link>(hub: &mut Hub, waiting: &mut Waiting, link: &mut L) -> Res
     ensures stored { OnOk result (hub.new.unstored ≡ []) }
     ensures cause { StoreCause (hub.old.unstored ≢ []) (L.plan link.old) (L.faults link.old) (L.faults link.new) result }
     ensures plan { L.plan link.new ≡ L.plan link.old }
+    ensures refusals { RefusalCause (L.refusals link.old) (L.refusals link.new) result }
     ensures lost { NeverFalls (L.lost link.old) (L.lost link.new) }
     ensures bounds { hub.new.bounds ≡ hub.old.bounds }
 {
@@ -197,6 +220,7 @@ pub fn serve_event<D: Dir, L: Link>(
     ensures stored { OnOk result (hub.new.unstored ≡ []) }
     ensures cause { StoreCause (hub.old.bounds.terms.keeps ≡ true) (L.plan link.old) (L.faults link.old) (L.faults link.new) result }
     ensures plan { L.plan link.new ≡ L.plan link.old }
+    ensures refusals { BlockRefusal heard (L.refusals link.old) (L.refusals link.new) result }
     ensures lost { NeverFalls (L.lost link.old) (L.lost link.new) }
     ensures bounds { hub.new.bounds ≡ hub.old.bounds }
 {

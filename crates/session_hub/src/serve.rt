@@ -3,10 +3,11 @@
 ghost use Rattle.std.specs.Prelude.{◌≡◌, [], true, IfOk, IfNone, IfSome, length, vec_len};
 ghost use Rattle.dir_tree.specs.tree.Numbered.{entries_of};
 ghost use Rattle.dir_tree.specs.plain_values.Counts.{NeverFalls};
+ghost use Rattle.session_model.specs.wire_io.Answers.{RefusalCause};
 ghost use Rattle.session_hub.specs.hub.Hubs.{held, no_hub};
 ghost use Rattle.session_hub.specs.Adding.{StoreCause, stops_with};
-ghost use Rattle.session_hub.specs.serve.Loops.{buffer_length, Serves, ServesTwins, PlaysOut, EndsFor, ends_with};
-ghost use Rattle.session_hub.specs.serve.Turns.{GoesOn, EndsWith};
+ghost use Rattle.session_hub.specs.serve.Loops.{buffer_length, Serves, ServesTwins, Starves, PlaysOut, EndsFor, ends_with};
+ghost use Rattle.session_hub.specs.serve.Turns.{GoesOn, EndsWith, StarvesFrom};
 
 use crate::block::serve_event;
 use crate::waiting::Waiting;
@@ -42,10 +43,12 @@ fn end_of(hub: &Hub, ended: Ended) -> Ended
     }
 }
 
+#[tactic(auto, unfolding(session_model::specs::wire_io::Answers::RefusalCause))]
 /// Has the link see to it that what was stored is on the disk, where changes are kept.
 fn sync_changes<L: Link>(hub: &Hub, link: &mut L) -> Result<(), NextFault>
     ensures tells { L.journal link.new ≡ L.journal link.old }
     ensures cause { StoreCause (hub.now.bounds.terms.keeps ≡ true) (L.plan link.old) (L.faults link.old) (L.faults link.new) result }
+    ensures refusals { RefusalCause (L.refusals link.old) (L.refusals link.new) result }
     ensures plan { L.plan link.new ≡ L.plan link.old }
     ensures lost { NeverFalls (L.lost link.old) (L.lost link.new) }
 {
@@ -79,6 +82,10 @@ fn take_turn<D: Dir, L: Link>(
     ensures faults { IfNone result (L.faults link.new ≡ L.faults link.old) }
     ensures stored { IfNone result (hub.new.unstored ≡ []) }
     ensures cause { IfSome result (λ ended. EndsFor hub.old.bounds.terms.keeps (L.plan link.old) (L.faults link.old) (L.faults link.new) ended) }
+    ensures memory { IfSome result (λ ended. StarvesFrom hub.old.bounds.terms
+        (L.journal link.old) (held (entries_of (D.rows dir.old)) hub.old) waiting.old.on_hold.items (L.refusals link.old)
+        ended (entries_of (D.rows dir.new)) (L.journal link.new) (L.refusals link.new)) }
+    ensures refusals { NeverFalls (L.refusals link.old) (L.refusals link.new) }
     ensures lost { NeverFalls (L.lost link.old) (L.lost link.new) }
     ensures bounds { hub.new.bounds ≡ hub.old.bounds }
 {
@@ -111,6 +118,10 @@ fn hear_next<D: Dir, L: Link>(
     ensures faults { IfNone result (L.faults link.new ≡ L.faults link.old) }
     ensures stored { IfNone result (hub.new.unstored ≡ []) }
     ensures cause { IfSome result (λ ended. EndsFor hub.old.bounds.terms.keeps (L.plan link.old) (L.faults link.old) (L.faults link.new) ended) }
+    ensures memory { IfSome result (λ ended. StarvesFrom hub.old.bounds.terms
+        (L.journal link.old) (held (entries_of (D.rows dir.old)) hub.old) waiting.old.on_hold.items (L.refusals link.old)
+        ended (entries_of (D.rows dir.new)) (L.journal link.new) (L.refusals link.new)) }
+    ensures refusals { NeverFalls (L.refusals link.old) (L.refusals link.new) }
     ensures lost { NeverFalls (L.lost link.old) (L.lost link.new) }
     ensures bounds { hub.new.bounds ≡ hub.old.bounds }
 {
@@ -147,6 +158,9 @@ fn serve_in<D: Dir, L: Link>(
         turns (L.journal link.old) result (L.journal link.new) }
     ensures plays { PlaysOut turns (L.journal link.old) (L.plan link.old) result (L.journal link.new) (L.plan link.new) }
     ensures cause { EndsFor hub.bounds.terms.keeps (L.plan link.old) (L.faults link.old) (L.faults link.new) result }
+    ensures memory { Starves hub.bounds.terms (entries_of (D.rows dir.old)) (entries_of (D.rows dir.new))
+        (L.journal link.old) (L.refusals link.old) result (L.journal link.new) (L.refusals link.new) }
+    ensures refusals { NeverFalls (L.refusals link.old) (L.refusals link.new) }
     ensures lost { NeverFalls (L.lost link.old) (L.lost link.new) }
 {
     let mut hub = hub;
@@ -168,10 +182,11 @@ fn serve_in<D: Dir, L: Link>(
 /// terms say so, the record of each accepted change is stored before any reply is taken that may show it, and
 /// before each event the link is asked to have what was stored on the disk.
 /// With `NoMemory` connections may have been cut, for want of memory or since more waited for them than the
-/// bounds have room for, each once, and the last block may be unfinished. `LinkFault` says that the link
-/// failed to give an event, and `StoreFault` that it failed to store changes or to have them on the disk,
-/// which its count of faults shows; the last block may then be unfinished. Where nothing was cut the journal
-/// serves twins of the directory too.
+/// bounds have room for, each once, and the last block may be unfinished; it comes only before the first event,
+/// where a connection opened last, where one was cut, or where the link refused a call for want of memory, which
+/// its count of refusals shows. `LinkFault` says that the link failed to give an event, and `StoreFault` that it
+/// failed to store changes or to have them on the disk, which its count of faults shows; the last block may then
+/// be unfinished. Where nothing was cut the journal serves twins of the directory too.
 pub fn serve_loop<D: Dir, L: Link>(
     alloc: Global,
     dir: &mut D,
@@ -184,6 +199,9 @@ pub fn serve_loop<D: Dir, L: Link>(
     ensures twins { ServesTwins bounds.terms (entries_of (D.rows dir.old)) (L.journal link.old) result (L.journal link.new) }
     ensures plays { PlaysOut turns (L.journal link.old) (L.plan link.old) result (L.journal link.new) (L.plan link.new) }
     ensures cause { EndsFor bounds.terms.keeps (L.plan link.old) (L.faults link.old) (L.faults link.new) result }
+    ensures memory { Starves bounds.terms (entries_of (D.rows dir.old)) (entries_of (D.rows dir.new))
+        (L.journal link.old) (L.refusals link.old) result (L.journal link.new) (L.refusals link.new) }
+    ensures refusals { NeverFalls (L.refusals link.old) (L.refusals link.new) }
     ensures lost { NeverFalls (L.lost link.old) (L.lost link.new) }
 {
     let Ok(hub) = Hub::new(alloc, bounds) else {

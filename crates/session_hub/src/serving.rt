@@ -1,6 +1,7 @@
 //! One event of a link, served.
 
-ghost use Rattle.std.specs.Prelude.{◌≡◌, false, [], ◌∷◌, List, ℕ, OnOk};
+ghost use Rattle.std.specs.Prelude.{◌≡◌, false, [], ◌∷◌, List, ℕ, OnOk, OnErr};
+ghost use Rattle.dir_tree.specs.plain_values.Counts.{Rose};
 ghost use Rattle.session_model.specs.Keeping.{is_listed};
 ghost use Rattle.session_model.specs.Kept.{Held};
 ghost use Rattle.session_model.specs.Serving.{Leads};
@@ -23,7 +24,9 @@ pub fn send_queue<L: Link>(hub: &mut Hub, link: &mut L, conn: u32) -> Result<Sen
     ensures adds { (terms : Terms) (start tree : DirectoryEntries) (due on_hold : List ℕ) → Adds (L.plan link.old)
         (IsServing terms start (conn ∷ due) (held tree hub.old) on_hold)
         (SentAs terms result start conn due (held tree hub.new) on_hold) (L.journal link.old) (L.journal link.new) }
-    ensures serves { OnlyServes (L.plan link.old) (L.plan link.new) (L.faults link.old) (L.faults link.new) (L.lost link.old) (L.lost link.new) }
+    ensures serves { OnlyServes (L.plan link.old) (L.plan link.new) (L.faults link.old) (L.faults link.new) (L.lost link.old) (L.lost link.new)
+        (L.refusals link.old) (L.refusals link.new) }
+    ensures wants { OnErr result (Rose (L.refusals link.old) (L.refusals link.new)) }
     ensures bounds { hub.new.bounds ≡ hub.old.bounds }
     ensures unstored { hub.new.unstored ≡ hub.old.unstored }
 {
@@ -41,6 +44,7 @@ pub fn send_queue<L: Link>(hub: &mut Hub, link: &mut L, conn: u32) -> Result<Sen
     }
 }
 
+#[tactic(auto, unfolding(session_model::specs::wire_io::Answers::NoteRefusal))]
 /// Forgets a connection that was found lost, and hangs it up.
 fn drop_lost<L: Link>(
     hub: &mut Hub,
@@ -53,7 +57,9 @@ fn drop_lost<L: Link>(
         (After terms result start tree (IsServing terms start due (held tree hub.new) waiting.new.on_hold.items))
         (L.journal link.old) (L.journal link.new) }
     ensures due { waiting.new.due.items ≡ waiting.old.due.items }
-    ensures serves { OnlyServes (L.plan link.old) (L.plan link.new) (L.faults link.old) (L.faults link.new) (L.lost link.old) (L.lost link.new) }
+    ensures serves { OnlyServes (L.plan link.old) (L.plan link.new) (L.faults link.old) (L.faults link.new) (L.lost link.old) (L.lost link.new)
+        (L.refusals link.old) (L.refusals link.new) }
+    ensures wants { OnErr result (Rose (L.refusals link.old) (L.refusals link.new)) }
     ensures bounds { hub.new.bounds ≡ hub.old.bounds }
     ensures unstored { hub.new.unstored ≡ hub.old.unstored }
 {
@@ -67,6 +73,7 @@ fn drop_lost<L: Link>(
     }
 }
 
+#[tactic(auto, unfolding(session_model::specs::wire_io::Answers::NoteRefusal))]
 /// Puts a connection on hold that takes no more now, unless it is on hold already.
 fn hold_back<L: Link>(waiting: &mut Waiting, link: &mut L, conn: u32) -> Result<(), AllocError>
     ensures adds { (terms : Terms) (start : DirectoryEntries) (due : List ℕ) (hub : Held DirectoryEntries Requester) → Adds (L.plan link.old)
@@ -74,17 +81,18 @@ fn hold_back<L: Link>(waiting: &mut Waiting, link: &mut L, conn: u32) -> Result<
         (After terms result start hub.tree (IsServing terms start due hub waiting.new.on_hold.items))
         (L.journal link.old) (L.journal link.new) }
     ensures due { waiting.new.due.items ≡ waiting.old.due.items }
-    ensures serves { OnlyServes (L.plan link.old) (L.plan link.new) (L.faults link.old) (L.faults link.new) (L.lost link.old) (L.lost link.new) }
+    ensures serves { OnlyServes (L.plan link.old) (L.plan link.new) (L.faults link.old) (L.faults link.new) (L.lost link.old) (L.lost link.new)
+        (L.refusals link.old) (L.refusals link.new) }
+    ensures wants { OnErr result (Rose (L.refusals link.old) (L.refusals link.new)) }
 {
     if waiting.is_on_hold(conn) {
         return Ok(());
     }
-    match waiting.hold(conn) {
-        Ok(()) => link.hold(conn),
-        Err(_) => Err(AllocError),
-    }
+    waiting.hold(conn);
+    link.hold(conn)
 }
 
+#[tactic(auto, unfolding(session_model::specs::wire_io::Answers::NoteRefusal))]
 /// Releases a connection to which nothing is left to be sent, if it is on hold.
 fn let_go<L: Link>(waiting: &mut Waiting, link: &mut L, conn: u32) -> Result<(), AllocError>
     ensures adds { (terms : Terms) (start : DirectoryEntries) (due : List ℕ) (hub : Held DirectoryEntries Requester) → Adds (L.plan link.old)
@@ -92,7 +100,9 @@ fn let_go<L: Link>(waiting: &mut Waiting, link: &mut L, conn: u32) -> Result<(),
         (After terms result start hub.tree (IsFree terms start conn due hub waiting.new.on_hold.items))
         (L.journal link.old) (L.journal link.new) }
     ensures due { waiting.new.due.items ≡ waiting.old.due.items }
-    ensures serves { OnlyServes (L.plan link.old) (L.plan link.new) (L.faults link.old) (L.faults link.new) (L.lost link.old) (L.lost link.new) }
+    ensures serves { OnlyServes (L.plan link.old) (L.plan link.new) (L.faults link.old) (L.faults link.new) (L.lost link.old) (L.lost link.new)
+        (L.refusals link.old) (L.refusals link.new) }
+    ensures wants { OnErr result (Rose (L.refusals link.old) (L.refusals link.new)) }
 {
     if !waiting.is_on_hold(conn) {
         return Ok(());
@@ -106,13 +116,16 @@ fn let_go<L: Link>(waiting: &mut Waiting, link: &mut L, conn: u32) -> Result<(),
     }
 }
 
+#[tactic(auto, unfolding(session_model::specs::wire_io::Answers::NoteRefusal))]
 /// Hangs up a connection to which nothing is left to be sent, if it is closing.
 fn hang_up_closing<L: Link>(hub: &mut Hub, link: &mut L, conn: u32) -> Result<(), AllocError>
     ensures adds { (terms : Terms) (start tree : DirectoryEntries) (due on_hold : List ℕ) → Adds (L.plan link.old)
         (IsFree terms start conn due (held tree hub.old) on_hold)
         (After terms result start tree (IsServing terms start due (held tree hub.new) on_hold))
         (L.journal link.old) (L.journal link.new) }
-    ensures serves { OnlyServes (L.plan link.old) (L.plan link.new) (L.faults link.old) (L.faults link.new) (L.lost link.old) (L.lost link.new) }
+    ensures serves { OnlyServes (L.plan link.old) (L.plan link.new) (L.faults link.old) (L.faults link.new) (L.lost link.old) (L.lost link.new)
+        (L.refusals link.old) (L.refusals link.new) }
+    ensures wants { OnErr result (Rose (L.refusals link.old) (L.refusals link.new)) }
     ensures bounds { hub.new.bounds ≡ hub.old.bounds }
     ensures unstored { hub.new.unstored ≡ hub.old.unstored }
 {
@@ -140,7 +153,9 @@ fn finish<L: Link>(
         (After terms result start tree (IsServing terms start due (held tree hub.new) waiting.new.on_hold.items))
         (L.journal link.old) (L.journal link.new) }
     ensures due { waiting.new.due.items ≡ waiting.old.due.items }
-    ensures serves { OnlyServes (L.plan link.old) (L.plan link.new) (L.faults link.old) (L.faults link.new) (L.lost link.old) (L.lost link.new) }
+    ensures serves { OnlyServes (L.plan link.old) (L.plan link.new) (L.faults link.old) (L.faults link.new) (L.lost link.old) (L.lost link.new)
+        (L.refusals link.old) (L.refusals link.new) }
+    ensures wants { OnErr result (Rose (L.refusals link.old) (L.refusals link.new)) }
     ensures bounds { hub.new.bounds ≡ hub.old.bounds }
     ensures unstored { hub.new.unstored ≡ hub.old.unstored }
 {
@@ -164,7 +179,9 @@ pub fn settle<L: Link>(
         (After terms result start tree (IsServing terms start due (held tree hub.new) waiting.new.on_hold.items))
         (L.journal link.old) (L.journal link.new) }
     ensures due { waiting.new.due.items ≡ waiting.old.due.items }
-    ensures serves { OnlyServes (L.plan link.old) (L.plan link.new) (L.faults link.old) (L.faults link.new) (L.lost link.old) (L.lost link.new) }
+    ensures serves { OnlyServes (L.plan link.old) (L.plan link.new) (L.faults link.old) (L.faults link.new) (L.lost link.old) (L.lost link.new)
+        (L.refusals link.old) (L.refusals link.new) }
+    ensures wants { OnErr result (Rose (L.refusals link.old) (L.refusals link.new)) }
     ensures bounds { hub.new.bounds ≡ hub.old.bounds }
     ensures unstored { hub.new.unstored ≡ hub.old.unstored }
 {
@@ -187,7 +204,9 @@ pub fn settle_all<L: Link>(
         (IsServing terms start waiting.old.due.items (held tree hub.old) waiting.old.on_hold.items)
         (After terms result start tree (IsServing terms start [] (held tree hub.new) waiting.new.on_hold.items))
         (L.journal link.old) (L.journal link.new) }
-    ensures serves { OnlyServes (L.plan link.old) (L.plan link.new) (L.faults link.old) (L.faults link.new) (L.lost link.old) (L.lost link.new) }
+    ensures serves { OnlyServes (L.plan link.old) (L.plan link.new) (L.faults link.old) (L.faults link.new) (L.lost link.old) (L.lost link.new)
+        (L.refusals link.old) (L.refusals link.new) }
+    ensures wants { OnErr result (Rose (L.refusals link.old) (L.refusals link.new)) }
     ensures bounds { hub.new.bounds ≡ hub.old.bounds }
     ensures unstored { hub.new.unstored ≡ hub.old.unstored }
 {

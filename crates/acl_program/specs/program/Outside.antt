@@ -1,5 +1,6 @@
 -- What the program stands in, as far as it is told: a shelf of files, a sink for what is printed and a link to connections,
--- each with its count of faults; a link also counts the connections that it found lost.
+-- each with its count of faults; a link also counts the connections that it found lost and the calls that it refused for want
+-- of memory.
 use Rattle.std.specs.Prelude.{ℕ, List, Option}
 use Rattle.command_files.specs.wire_io.declared.journal.Item.{Item}
 use Rattle.command_files.specs.wire_io.Files.{Files}
@@ -12,6 +13,7 @@ pub record Linked : Type 0 where
   pub plan : Option Plan
   pub faults : ℕ
   pub lost : ℕ
+  pub refusals : ℕ
 
 -- all three
 pub record Outside : Type 0 where
@@ -20,8 +22,8 @@ pub record Outside : Type 0 where
   pub link : Linked
 
 -- a link, by what it did, what it has to give, and its counts
-abbrev pub linked : Option (List Item) → Option Plan → ℕ → ℕ → Linked
-linked journal plan faults lost = record { journal = journal; plan = plan; faults = faults; lost = lost }
+abbrev pub linked : Option (List Item) → Option Plan → ℕ → ℕ → ℕ → Linked
+linked journal plan faults lost refusals = record { journal = journal; plan = plan; faults = faults; lost = lost; refusals = refusals }
 
 -- a sink and a link beside a shelf
 abbrev pub beside : Shelved → Written → Linked → Outside

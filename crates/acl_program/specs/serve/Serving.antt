@@ -8,7 +8,7 @@ use Rattle.command_files.specs.wire_io.link.Telling.{OpenTells}
 use Rattle.session_hub.specs.declared.ended.Ended.{Ended}
 use Rattle.session_hub.specs.declared.ended.Ended.TheVariants as ended
 use Rattle.session_hub.specs.declared.bounds.Terms.{Terms}
-use Rattle.session_hub.specs.serve.Loops.{Serves, PlaysOut, EndsFor}
+use Rattle.session_hub.specs.serve.Loops.{Serves, Starves, PlaysOut, EndsFor}
 use Rattle.command_words.specs.command.Command.{ServingView}
 use Rattle.command_files.specs.dir_tree.Entry.{EntryInformation}
 use Rattle.command_files.specs.declared.changing.Applied.{Applied}
@@ -94,13 +94,16 @@ Opens serving answer before after = Gives (λ old given new. OpenTells old servi
 abbrev pub terms_of : ServingView → Terms
 terms_of serving = record { limit = serving.limit; keeps = is_some serving.changes }
 
--- the open link was served over the entries, by rules of the terms that the words ask for, and the loop ended so
+-- the open link was served over the entries, by rules of the terms that the words ask for, and the loop ended so, for want of
+-- memory with a cause alone
 pub record ServesUntil (asked : ServeAsked) (how : Ended) (before after : Linked) : Type 0 where
   pub left : List EntryInformation
   pub served : Serves (terms_of asked.serving) asked.left.entries left asked.serving.turns before.journal how after.journal
   pub plays : PlaysOut asked.serving.turns before.journal before.plan how after.journal after.plan
   pub cause : EndsFor (is_some asked.serving.changes) before.plan before.faults after.faults how
   pub lost : NeverFalls before.lost after.lost
+  pub memory : Starves (terms_of asked.serving) asked.left.entries left before.journal before.refusals how after.journal after.refusals
+  pub refusals : NeverFalls before.refusals after.refusals
 
 -- what was done with the link once its store was ready: one `open`, and where that was answered Ok and the lines were put,
 -- what the loop did

@@ -34,6 +34,7 @@ pub record Gives (Tells : Option (List Item) → Result (Unit {0}) NextFault →
   pub cause : LinkCause before.plan before.faults after.faults answer
   pub plan : after.plan ≡ before.plan
   pub lost : NeverFalls before.lost after.lost
+  pub refusals : NeverFalls before.refusals after.refusals
 
 -- it was asked to open the store of the file of changes, where one is named
 abbrev pub OpensStore : Option (List ℕ) → Result (Unit {0}) NextFault → Linked → Linked → Type 0

@@ -1,6 +1,12 @@
 -- An event heard, by what a hub makes of it.
-use Rattle.std.proofs.Common.{◌≡◌, ◌≤◌, ◌<◌, ℕ, nat_lt, Bool, true, false, List, [], ◌∷◌, ◌++◌, length, Option, Some, None, Result, Ok, Err, OnOk, refl, ap, sym, ◌∙◌, subst, arith, cond}
+use Rattle.std.proofs.Common.{◌≡◌, ◌≤◌, ◌<◌, ℕ, nat_lt, Bool, true, false, List, [], ◌∷◌, ◌++◌, length, Option, Some, None, Result, Ok, Err, OnOk, OnErr, inr, refl, ap, sym, ◌∙◌, subst, arith, cond}
 use Rattle.std.proofs.lemmas.Bool.Decides.{nat_tests}
+use Rattle.dir_tree.specs.plain_values.Counts.{NeverFalls}
+use Rattle.dir_tree.proofs.plain_values_proofs.Theorems.{NeverFalls-trans, Rose-never_falls}
+use Rattle.session_model.specs.wire_io.declared.answers.Heard.{Heard as Answer}
+use Rattle.session_model.specs.wire_io.declared.answers.NextFault.{NextFault}
+use Rattle.session_model.specs.wire_io.declared.answers.NextFault.TheVariants as fault
+use Rattle.session_model.specs.wire_io.Answers.{RefusalCause}
 use Rattle.session_model.specs.wire_io.declared.journal.Event.{Event as JournalEvent}
 use Rattle.session_model.specs.wire_io.declared.journal.Event.TheVariants as event
 use Rattle.session_model.specs.wire_io.declared.journal.Item.{Item}
@@ -22,12 +28,15 @@ use Rattle.session_hub.specs.declared.event.Event.{Event}
 use Rattle.session_hub.specs.declared.event.Event.TheVariants as came
 use Rattle.session_hub.specs.Event.{new_cut}
 use Rattle.session_hub.specs.Telling.{journal_event_of, IsOf}
-use Rattle.session_hub.specs.Adding.{Adds, IsServing, IsHeard, IsTurnedAway, After}
-use Rattle.session_hub.proofs.serving.AddingLemmas.{adds_nothing, adds_one}
+use Rattle.session_hub.specs.Adding.{Adds, BlockRefusal, IsServing, IsHeard, IsTurnedAway, After}
+use Rattle.session_hub.proofs.serving.AddingLemmas.{adds_nothing, adds_one, rose_after}
 use Rattle.session_hub.proofs.serving.ServingLemmas.{block_hung_up}
 
 covers_same : (xs : List ℕ) → Covers xs xs
 covers_same xs = record { covers = λ n h. h }
+
+pub covers_is : (xs ys : List ℕ) → xs ≡ ys → Covers xs ys
+covers_is xs ys is = subst (λ zs. Covers zs ys) (sym is) (covers_same ys)
 
 -- what serves these serves those that are then due, or the journal is right so far
 pub begins_as : {X E : Type 0} (terms : Terms) (result : Result X E) (start : DirectoryEntries) (due now on_hold held_now : List ℕ) (hub : Held DirectoryEntries Requester) (added : List Item) → held_now ≡ on_hold → OnOk result (Covers now due) →
@@ -159,3 +168,19 @@ nothing_opens conn (came.Ended c) kept is_of opens_one = opens_one
 pub turns_away : (terms : Terms) (start : DirectoryEntries) (c : ℕ) (old new : Held DirectoryEntries Requester) (on_hold : List ℕ) (added : List Item) → Hears terms (came.Opened c) old new → most_held ≤ length old.kept →
     IsHeard terms start old on_hold (event.Opened c) added → IsTurnedAway terms start c new on_hold added
 turns_away terms start c old new on_hold added hears full h = record { old = old; heard = h; full = full; same = hears.same }
+
+-- what is said of want of memory holds anyway, or there is none
+pub opens_any : {X E : Type 0} (result : Result X E) (P : Type 0) → P → OnErr result P
+opens_any (Ok value) P holds = tt
+opens_any (Err fault) P holds = holds
+
+pub opens_none : {X E : Type 0} (result : Result X E) (P : Type 0) → OnErr result ⊥ → OnErr result P
+opens_none (Ok value) P never = tt
+opens_none (Err fault) P never = absurd never
+
+-- a block ends for want of memory where its event opened a connection, or where the link had none
+pub block_refused : {X : Type 0} (given : Answer) (first before after : ℕ) (result : Result X NextFault) → NeverFalls first before → RefusalCause before after result → BlockRefusal given first after result
+unfolding RefusalCause
+block_refused given first before after (Ok value) kept cause = NeverFalls-trans kept cause
+block_refused given first before after (Err fault.Failed) kept cause = NeverFalls-trans kept cause
+block_refused given first before after (Err fault.NoMemory) kept cause = let rise = rose_after kept cause in (Rose-never_falls rise, inr rise)

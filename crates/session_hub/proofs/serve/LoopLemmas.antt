@@ -79,13 +79,16 @@ heard_now : (terms : Terms) (entries : DirectoryEntries) (begun added : List Ite
     IsServing terms entries [] hub on_hold added → IsHeard terms entries hub on_hold e (added ++ item.Heard e ∷ [])
 heard_now terms entries begun added e after hub on_hold came works = record { before = added; last = refl; opens = came.opens; works = works }
 
+-- the event is the last that was heard
+heard_last : (added more : List Item) (e : Event) → heard more ≡ [] → heard ((added ++ item.Heard e ∷ []) ++ more) ≡ heard added ++ e ∷ []
+heard_last added more e none =
+    heard-append (added ++ item.Heard e ∷ []) more ∙ ap (λ xs. heard (added ++ item.Heard e ∷ []) ++ xs) none ∙ append-nil (heard (added ++ item.Heard e ∷ []))
+    ∙ heard-append added (item.Heard e ∷ []) ∙ ap (λ xs. heard added ++ xs) (one_event e)
+
 -- as many events as heard, and one more
 heard_more : (added more : List Item) (e : Event) (n : ℕ) → length (heard added) ≡ n → heard more ≡ [] → length (heard ((added ++ item.Heard e ∷ []) ++ more)) ≡ n + 1
 heard_more added more e n count none =
-    let all : heard ((added ++ item.Heard e ∷ []) ++ more) ≡ heard added ++ e ∷ [] =
-    heard-append (added ++ item.Heard e ∷ []) more ∙ ap (λ xs. heard (added ++ item.Heard e ∷ []) ++ xs) none ∙ append-nil (heard (added ++ item.Heard e ∷ []))
-    ∙ heard-append added (item.Heard e ∷ []) ∙ ap (λ xs. heard added ++ xs) (one_event e) in
-    ap length all ∙ length-append (heard added) (e ∷ []) ∙ ap (λ m. m + 1) count
+    ap length (heard_last added more e none) ∙ length-append (heard added) (e ∷ []) ∙ ap (λ m. m + 1) count
 
 stopped_more : (added more : List Item) (e : Event) (b : Bool) → was_stopped added ≡ false → is_stop e ≡ b → was_stopped more ≡ false → was_stopped ((added ++ item.Heard e ∷ []) ++ more) ≡ b
 stopped_more added more e b f g h =
@@ -93,14 +96,16 @@ stopped_more added more e b f g h =
     ∙ grind (arith, f, g, h)
 
 -- what an event and its block come to
-pub record Served_on (entries : DirectoryEntries) (n : ℕ) (stop : Bool) (Q : List Item → Type 0) (added : List Item) : Type 0 where
+pub record Served_on (e : Event) (n : ℕ) (stop : Bool) (Q : List Item → Type 0) (added : List Item) : Type 0 where
+  pub earlier : List Event
+  pub last : heard added ≡ earlier ++ e ∷ []
   pub ends : was_stopped added ≡ stop
   pub counts : length (heard added) ≡ n + 1
   pub holds : Q added
 
-serve_on : (terms : Terms) (entries : DirectoryEntries) (n : ℕ) (stop : Bool) (plan : Option Plan) (before a b after : Option (List Item)) (hub : Held DirectoryEntries Requester) (on_hold : List ℕ) (Q : List Item → Type 0) (buf : List ℕ) (given : Answer) →
+pub serve_on : (terms : Terms) (entries : DirectoryEntries) (n : ℕ) (stop : Bool) (plan : Option Plan) (before a b after : Option (List Item)) (hub : Held DirectoryEntries Requester) (on_hold : List ℕ) (Q : List Item → Type 0) (buf : List ℕ) (given : Answer) →
     Running terms entries n before a hub on_hold → NextTells {E = NextFault} a buf (Ok given) b → is_stop (event_of buf given) ≡ stop → Adds plan (IsHeard terms entries hub on_hold (event_of buf given)) Q b after →
-    (begun : List Item) → before ≡ Some begun → (added : List Item) × (after ≡ Some (begun ++ added)) × Served_on entries n stop Q added
+    (begun : List Item) → before ≡ Some begun → (added : List Item) × (after ≡ Some (begun ++ added)) × Served_on (event_of buf given) n stop Q added
 unfolding Running Adds
 serve_on terms entries n stop plan before a b after hub on_hold Q buf given running tells is_one adds begun is =
     let so = running begun is in
@@ -111,6 +116,8 @@ serve_on terms entries n stop plan before a b after hub on_hold Q buf given runn
       (added ++ item.Heard e ∷ []) ++ block.0,
       block.1,
       record {
+        earlier = heard added;
+        last = heard_last added block.0 e block.2.events;
         ends = stopped_more added block.0 e stop so.2.goes_on is_one block.2.stops;
         counts = heard_more added block.0 e n so.2.counts block.2.events;
         holds = block.3 (heard_now terms entries begun added e b hub on_hold came so.2.works);

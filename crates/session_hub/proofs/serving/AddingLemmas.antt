@@ -1,6 +1,7 @@
 -- Calls of a loop, one after another.
-use Rattle.std.proofs.Common.{◌≡◌, ◌||◌, ℕ, List, [], ◌∷◌, ◌++◌, Option, Some, refl, ap, ap₂, sym, ◌∙◌, subst, append_assoc, append-nil, arith}
+use Rattle.std.proofs.Common.{◌≡◌, ◌||◌, ◌≤◌, ◌<◌, ◌⊎◌, inl, inr, ℕ, List, [], ◌∷◌, ◌++◌, Option, Some, Result, Ok, Err, OnErr, refl, ap, ap₂, sym, ◌∙◌, subst, append_assoc, append-nil, arith}
 use Rattle.dir_tree.proofs.plain_values_proofs.Theorems.{NeverFalls-trans, NeverFalls-refl}
+use Rattle.dir_tree.specs.plain_values.Counts.{NeverFalls, Rose, last_count}
 use Rattle.session_model.specs.wire_io.declared.journal.Item.{Item}
 use Rattle.session_model.specs.wire_io.Journal.{heard, was_stopped}
 use Rattle.session_model.specs.wire_io.link.Telling.{noted}
@@ -73,9 +74,26 @@ adds_as plan P P' Q Q' a b first last adds begun added is =
     let x = adds begun added is in (x.0, x.1, x.2, λ holds. last (added ++ x.0) (x.3 (first added holds)))
 
 -- calls that serve, one after another
-pub serves_none : (plan : Option Plan) (faults lost : ℕ) → OnlyServes plan plan faults faults lost lost
-serves_none plan faults lost = record { plan = refl; faults = refl; lost = NeverFalls-refl lost }
+pub serves_none : (plan : Option Plan) (faults lost refusals : ℕ) → OnlyServes plan plan faults faults lost lost refusals refusals
+serves_none plan faults lost refusals = record { plan = refl; faults = refl; lost = NeverFalls-refl lost; refusals = NeverFalls-refl refusals }
 
-pub serves_then : (p q s : Option Plan) (f g h k l m : ℕ) → OnlyServes p q f g k l → OnlyServes q s g h l m → OnlyServes p s f h k m
-serves_then p q s f g h k l m first second =
-    record { plan = second.plan ∙ first.plan; faults = second.faults ∙ first.faults; lost = NeverFalls-trans first.lost second.lost }
+pub serves_then : (p q s : Option Plan) (f g h k l m a b d : ℕ) → OnlyServes p q f g k l a b → OnlyServes q s g h l m b d → OnlyServes p s f h k m a d
+serves_then p q s f g h k l m a b d first second =
+    record {
+      plan = second.plan ∙ first.plan;
+      faults = second.faults ∙ first.faults;
+      lost = NeverFalls-trans first.lost second.lost;
+      refusals = NeverFalls-trans first.refusals second.refusals;
+    }
+
+-- a count that rose last rose over all
+pub rose_after : {first before after : ℕ} → NeverFalls first before → Rose before after → Rose first after
+rose_after {first = first} {before = before} {after = after} kept rise = record { never_falls = omega (arith, kept.never_falls, rise.never_falls); rose = over kept.never_falls rise.rose }
+  where
+    over : first ≤ before → (before < after) ⊎ (last_count ≤ after) → (first < after) ⊎ (last_count ≤ after)
+    over below (inl above) = inl (omega arith)
+    over below (inr last) = inr last
+
+pub wants_after : {X E : Type 0} (result : Result X E) {first before after : ℕ} → NeverFalls first before → OnErr result (Rose before after) → OnErr result (Rose first after)
+wants_after (Ok value) kept wants = tt
+wants_after (Err fault) kept wants = rose_after kept wants

@@ -1,5 +1,6 @@
 -- The calls of a link within a block.
-use Rattle.std.proofs.Common.{◌≡◌, ◌≢◌, ◌≤◌, ◌<◌, ◌==◌, ℕ, true, false, List, [], ◌∷◌, ◌++◌, length, take, drop, Option, Result, Ok, Err, refl, ap, sym, ◌∙◌, subst, arith, length-drop, drop_of_length-le}
+use Rattle.std.proofs.Common.{◌≡◌, ◌≢◌, ◌≤◌, ◌<◌, ◌==◌, ℕ, nat_eq, true, false, List, [], ◌∷◌, ◌++◌, length, take, drop, Option, Result, Ok, Err, refl, ap, sym, ◌∙◌, subst, arith, length-drop, drop_of_length-le}
+use Rattle.std.specs.List.{IsDistinct}
 use Rattle.std.proofs.lemmas.Bool.Decides.{nat_tests}
 use Rattle.session_model.specs.wire_io.declared.journal.Item.{Item}
 use Rattle.session_model.specs.wire_io.declared.journal.Item.TheVariants as item
@@ -9,12 +10,13 @@ use Rattle.session_model.specs.wire_io.link.Plan.{Plan}
 use Rattle.session_model.specs.wire_io.Answers.{WriteCause}
 use Rattle.session_model.specs.wire_io.link.Telling.{TookTells, NoteTells}
 use Rattle.session_model.proofs.wire_io_proofs.Theorems.{WriteCause-never_later, WriteCause-never_gone}
+use Rattle.session_model.specs.Run.{most_held}
 use Rattle.session_model.specs.Kept.{Kept, Held, queue_of, closing_of, taken_off, forgotten}
 use Rattle.session_model.specs.Keeping.{is_listed}
 use Rattle.session_model.specs.Journaled.{all_taken}
 use Rattle.session_model.specs.Serving.{Leads}
 use Rattle.session_model.specs.Working.{Refused, Lost, Puts, Covers}
-use Rattle.session_model.proofs.Theorems.{works_taken, works_refused, refused_stands, refused_held, works_released, works_sent, works_hung_up, works_leads, works_as, lost_leads, lost_hung_up}
+use Rattle.session_model.proofs.Theorems.{works_taken, works_refused, refused_stands, refused_held, works_released, works_sent, works_hung_up, works_leads, works_as, lost_leads, lost_hung_up, refused_fits}
 use Rattle.session_hub.specs.Parties.{DirectoryEntries, Requester}
 use Rattle.session_hub.specs.Terms.{Terms}
 use Rattle.session_hub.specs.Answering.{rules}
@@ -119,19 +121,14 @@ stays_held terms plan start c due on_hold hub journal listed =
     adds_nothing plan (Refused (rules terms) start c due hub on_hold) (IsServing terms start due hub on_hold) journal journal refl (λ added refused. refused_stands (rules terms) start c due hub on_hold added refused listed)
 
 pub holds_back : {E : Type 0} (terms : Terms) (plan : Option Plan) (start : DirectoryEntries) (c : ℕ) (due on_hold now : List ℕ) (hub : Held DirectoryEntries Requester) (before after : Option (List Item)) (result : Result (Unit {0}) E) →
-    NoteTells before (item.Held c) result after → Puts c true on_hold now →
+    NoteTells before (item.Held c) result after → is_listed c on_hold ≡ false → IsDistinct nat_eq on_hold → (length on_hold < most_held → Puts c true on_hold now) →
     Adds plan (Refused (rules terms) start c due hub on_hold) (After terms result start hub.tree (IsServing terms start due hub now)) before after
 unfolding NoteTells
-holds_back terms plan start c due on_hold now hub before after (Ok done) tells puts =
+holds_back terms plan start c due on_hold now hub before after (Ok done) tells free once puts =
     adds_one plan (Refused (rules terms) start c due hub on_hold) (IsServing terms start due hub now) before after (item.Held c) tells (block_held plan c)
-    (λ added refused. refused_held (rules terms) start c due hub on_hold now added refused puts)
-holds_back terms plan start c due on_hold now hub before after (Err fault) tells puts =
+    (λ added refused. refused_held (rules terms) start c due hub on_hold now added refused (puts (refused_fits (rules terms) start c due hub on_hold added refused free once)))
+holds_back terms plan start c due on_hold now hub before after (Err fault) tells free once puts =
     adds_nothing plan (Refused (rules terms) start c due hub on_hold) (Leads (rules terms) start hub.tree) before after tells (λ added refused. works_leads (rules terms) start (c ∷ due) hub on_hold added refused.works)
-
-pub not_held_back : (terms : Terms) (plan : Option Plan) (start : DirectoryEntries) (c : ℕ) (due on_hold : List ℕ) (hub : Held DirectoryEntries Requester) (journal : Option (List Item)) →
-    Adds plan (Refused (rules terms) start c due hub on_hold) (Leads (rules terms) start hub.tree) journal journal
-not_held_back terms plan start c due on_hold hub journal =
-    adds_nothing plan (Refused (rules terms) start c due hub on_hold) (Leads (rules terms) start hub.tree) journal journal refl (λ added refused. works_leads (rules terms) start (c ∷ due) hub on_hold added refused.works)
 
 -- one to which nothing is left to be sent isn't on hold, or is released
 pub stays_free : (terms : Terms) (plan : Option Plan) (start : DirectoryEntries) (c : ℕ) (due on_hold : List ℕ) (hub : Held DirectoryEntries Requester) (journal : Option (List Item)) → is_listed c on_hold ≡ false →

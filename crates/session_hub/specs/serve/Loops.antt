@@ -1,15 +1,17 @@
 -- What a loop over a link adds to the link's journal, and what it answers when it ends.
-use Rattle.std.specs.Prelude.{◌≡◌, ◌<◌, ◌≤◌, ℕ, Bool, true, false, cond, List, [], ◌++◌, length, Option, Some, None}
+use Rattle.std.specs.Prelude.{◌≡◌, ◌<◌, ◌≤◌, ◌⊎◌, ℕ, Bool, true, false, cond, List, [], ◌∷◌, ◌++◌, length, Option, Some, None}
 use Rattle.std.specs.List.{AllByRecursion}
 use Rattle.dir_tree.specs.plain_values.Counts.{Rose, NeverFalls}
 use Rattle.dir_tree.specs.dn_names.name.Names.{RdnSequence}
+use Rattle.session_model.specs.wire_io.declared.journal.Event.{Event}
+use Rattle.session_model.specs.wire_io.declared.journal.Event.TheVariants.{Opened}
 use Rattle.session_model.specs.wire_io.declared.journal.Item.{Item}
 use Rattle.session_model.specs.wire_io.Journal.{heard, was_stopped, is_held}
 use Rattle.session_model.specs.wire_io.link.Plan.{Plan}
 use Rattle.session_model.specs.wire_io.Pieces as pieces
 use Rattle.session_model.specs.wire_io.Pieces.{Plays}
-use Rattle.session_model.specs.Run.{start, run}
-use Rattle.session_model.specs.Journaled.{steps_of, all_taken}
+use Rattle.session_model.specs.Run.{Step, start, run}
+use Rattle.session_model.specs.Journaled.{HasCut, steps_of, all_taken}
 use Rattle.session_model.specs.Serving.{Served, Leads}
 use Rattle.session_model.specs.Replaying.{IsReplay}
 use Rattle.session_model.specs.AnsweredMessages.{answered_of_run}
@@ -104,6 +106,28 @@ EndsFor keeps plan before after StoreFault = Rose before after × MayFail plan �
 EndsFor keeps plan before after Stopped = after ≡ before
 EndsFor keeps plan before after TurnsSpent = after ≡ before
 EndsFor keeps plan before after NoMemory = NeverFalls before after
+
+-- the event that was heard last opened a connection
+pub record OpensLast (added : List Item) : Type 0 where
+  pub number : ℕ
+  pub earlier : List Event
+  pub last : heard added ≡ earlier ++ Opened number ∷ []
+
+-- why a loop had no memory, by its steps and its link's count of refusals: nothing was heard yet, so that it may be what the
+-- loop is made of; or a connection opened last; or some connection was cut; or the link refused a call
+abbrev pub MemoryCause : List Step → List Item → ℕ → ℕ → Type 0
+MemoryCause steps added before after = (heard added ≡ []) ⊎ OpensLast added ⊎ HasCut steps ⊎ Rose before after
+
+-- the journal leads by steps that have such a cause
+pub record IsStarved (terms : Terms) (entries left : DirectoryEntries) (added : List Item) (before after : ℕ) : Type 0 where
+  pub leads : Leads (rules terms) entries left added
+  pub cause : MemoryCause leads.steps added before after
+
+-- a loop ends for want of memory with a cause alone, where its link tells its journal
+unfoldable pub Starves : Terms → DirectoryEntries → DirectoryEntries → Option (List Item) → ℕ → Ended → Option (List Item) → ℕ → Type 0
+Starves terms entries left before refusals ended after refusals_after =
+    (begun : List Item) → before ≡ Some begun → ended ≡ NoMemory →
+    (added : List Item) × (after ≡ Some (begun ++ added)) × IsStarved terms entries left added refusals refusals_after
 
 -- the answer of a loop in which a connection was cut
 abbrev pub ends_with : Bool → Ended → Ended

@@ -1,5 +1,6 @@
 -- What one turn of a loop leaves, whatever the loop did before it, for the loop's own functions alone.
 use Rattle.std.specs.Prelude.{◌≡◌, ◌<◌, ◌+◌, ℕ, true, false, List, [], ◌++◌, length, Option, Some, None}
+use Rattle.dir_tree.specs.plain_values.Counts.{NeverFalls}
 use Rattle.session_model.specs.wire_io.declared.journal.Item.{Item}
 use Rattle.session_model.specs.wire_io.Journal.{heard, was_stopped, is_held}
 use Rattle.session_model.specs.wire_io.Pieces.{Plays, steps_of}
@@ -9,7 +10,7 @@ use Rattle.session_model.specs.Journaled.{all_taken}
 use Rattle.session_hub.specs.Parties.{DirectoryEntries, Requester}
 use Rattle.session_hub.specs.Terms.{Terms}
 use Rattle.session_hub.specs.declared.ended.Ended.{Ended}
-use Rattle.session_hub.specs.serve.Loops.{buffer_length, Serves, PlaysOut}
+use Rattle.session_hub.specs.serve.Loops.{buffer_length, Serves, Starves, PlaysOut}
 use Rattle.session_hub.specs.Adding.{IsServing}
 
 -- so many events were heard, none of them Stop, and nobody is due
@@ -61,3 +62,9 @@ EndsWith terms now plan_now held on_hold ended left after plan_after =
     (entries : DirectoryEntries) (count turns : ℕ) (before : Option (List Item)) (plan_before : Option Plan) →
     count < turns → IsUnderWay terms entries count before now plan_before plan_now held on_hold →
     Serves terms entries left turns before ended after × PlaysOut turns before plan_before ended after plan_after
+
+-- a loop that ends so for want of memory has a cause, from however early its link's refusals are counted
+abbrev pub StarvesFrom : Terms → Option (List Item) → Held DirectoryEntries Requester → List ℕ → ℕ → Ended → DirectoryEntries → Option (List Item) → ℕ → Type 0
+StarvesFrom terms now held on_hold refusals ended left after refusals_after =
+    (entries : DirectoryEntries) (count : ℕ) (before : Option (List Item)) (first : ℕ) →
+    Running terms entries count before now held on_hold → NeverFalls first refusals → Starves terms entries left before first ended after refusals_after

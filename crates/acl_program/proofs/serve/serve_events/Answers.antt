@@ -15,6 +15,8 @@ returns g c = record {
       plays = c.serve_loop-ended.ensures.plays;
       cause = rw c.bounds_of.ensures.terms at c.serve_loop-ended.ensures.cause;
       lost = c.serve_loop-ended.ensures.lost;
+      memory = rw c.bounds_of.ensures.terms at c.serve_loop-ended.ensures.memory;
+      refusals = c.serve_loop-ended.ensures.refusals;
     };
     ends = c.after.ensures.exact ∙ ap (λ wanted. settled c.write_all-put.result wanted) c.loop_status.ensures;
     tells = PutsAll-as _ _ _ _ _ (c.as_bytes.ensures.value ∙ c.ended_text.ensures) c.write_all-put.ensures.tells;

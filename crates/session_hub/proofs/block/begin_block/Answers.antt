@@ -1,10 +1,11 @@
-use Rattle.std.proofs.Common.{refl, sym, ap, ◌∙◌}
+use Rattle.std.proofs.Common.{Ok, refl, subst, sym, ap, ◌∙◌}
 use Rattle.dir_tree.specs.tree.Numbered.{entries_of}
 use Rattle.session_model.specs.wire_io.declared.journal.Event.TheVariants as event
 use Rattle.session_model.specs.wire_io.link.Telling.{event_of}
 use Rattle.session_hub.specs.hub.Hubs.{held}
+use Rattle.session_hub.specs.Adding.{IsOpening}
 use Rattle.session_hub.proofs.serving.AddingLemmas.{adds_nothing}
-use Rattle.session_hub.proofs.block.BlockLemmas.{as_heard, idle_goes, opens_none-ready, opens_none-idle, opens_none-stop}
+use Rattle.session_hub.proofs.block.BlockLemmas.{covers_is, opens_any, opens_none, as_heard, idle_goes, opens_none-ready, opens_none-idle, opens_none-stop}
 use Rattle.session_hub.proofs.block.begin_block.Goals as goal
 
 -- a connection opened
@@ -28,15 +29,25 @@ returns-in-Ended-clause-adds g c = λ start. as_heard c.args.hub.now.bounds.term
 pub returns-in-Ready-clause-adds : goal.returns-in-Ready-clause-adds
 unfolding event_of
 returns-in-Ready-clause-adds g c = λ start.
-    idle_goes c.args.hub.now.bounds.terms _ c.begin.result start (event.Ready c.in-Ready.field-0) _ (held (entries_of (g.D.Dir.rows c.args.dir.now)) c.args.hub.now) _ _ _ _ (ap (event_of c.args.buffer.now) c.in-Ready.is) refl (opens_none-ready c.in-Ready.field-0)
-    c.begin.ensures.on_hold c.begin.ensures.ok
+    idle_goes {X = Unit {0}} {E = Unit {0}} c.args.hub.now.bounds.terms _ (Ok tt) start (event.Ready c.in-Ready.field-0) _ (held (entries_of (g.D.Dir.rows c.args.dir.now)) c.args.hub.now) _ _ _ _ (ap (event_of c.args.buffer.now) c.in-Ready.is) refl (opens_none-ready c.in-Ready.field-0)
+    c.begin.ensures.on_hold (covers_is _ _ c.begin.ensures.due)
 
 pub returns-in-Idle-clause-adds : goal.returns-in-Idle-clause-adds
 unfolding event_of
 returns-in-Idle-clause-adds g c = λ start.
-    idle_goes c.args.hub.now.bounds.terms _ c.begin-in-Idle.result start event.Idle _ (held (entries_of (g.D.Dir.rows c.args.dir.now)) c.args.hub.now) _ _ _ _ (ap (event_of c.args.buffer.now) c.in-Idle.is) refl opens_none-idle c.begin-in-Idle.ensures.on_hold c.begin-in-Idle.ensures.ok
+    idle_goes {X = Unit {0}} {E = Unit {0}} c.args.hub.now.bounds.terms _ (Ok tt) start event.Idle _ (held (entries_of (g.D.Dir.rows c.args.dir.now)) c.args.hub.now) _ _ _ _ (ap (event_of c.args.buffer.now) c.in-Idle.is) refl opens_none-idle c.begin-in-Idle.ensures.on_hold (covers_is _ _ c.begin-in-Idle.ensures.due)
 
 pub returns-in-Stop-clause-adds : goal.returns-in-Stop-clause-adds
 unfolding event_of
 returns-in-Stop-clause-adds g c = λ start.
-    idle_goes c.args.hub.now.bounds.terms _ c.begin-in-Stop.result start event.Stop _ (held (entries_of (g.D.Dir.rows c.args.dir.now)) c.args.hub.now) _ _ _ _ (ap (event_of c.args.buffer.now) c.in-Stop.is) refl opens_none-stop c.begin-in-Stop.ensures.on_hold c.begin-in-Stop.ensures.ok
+    idle_goes {X = Unit {0}} {E = Unit {0}} c.args.hub.now.bounds.terms _ (Ok tt) start event.Stop _ (held (entries_of (g.D.Dir.rows c.args.dir.now)) c.args.hub.now) _ _ _ _ (ap (event_of c.args.buffer.now) c.in-Stop.is) refl opens_none-stop c.begin-in-Stop.ensures.on_hold (covers_is _ _ c.begin-in-Stop.ensures.due)
+
+-- want of memory comes with a connection that opens alone
+pub returns-in-Opened-clause-opens : goal.returns-in-Opened-clause-opens
+returns-in-Opened-clause-opens g c = opens_any c.greet.result _ (subst IsOpening (sym c.in-Opened.is) tt)
+
+pub returns-in-Bytes-clause-opens : goal.returns-in-Bytes-clause-opens
+returns-in-Bytes-clause-opens g c = opens_none c.hear_on.result _ c.hear_on.ensures.never
+
+pub returns-in-Ended-clause-opens : goal.returns-in-Ended-clause-opens
+returns-in-Ended-clause-opens g c = opens_none c.hear_on-in-Ended.result _ c.hear_on-in-Ended.ensures.never

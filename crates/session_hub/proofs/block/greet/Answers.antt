@@ -1,4 +1,4 @@
-use Rattle.std.proofs.Common.{◌≡◌, length, refl, arith, ap, ◌∙◌}
+use Rattle.std.proofs.Common.{◌≡◌, length, Ok, refl, arith, ap, ◌∙◌}
 use Rattle.dir_tree.specs.tree.Numbered.{entries_of}
 use Rattle.session_model.specs.Kept.{Held}
 use Rattle.session_hub.specs.Parties.{DirectoryEntries, Requester}
@@ -16,8 +16,8 @@ returns-in-Err-clause-adds g c = λ start. adds_nothing _ _ _ _ _ refl (λ added
 pub returns-then-has_room-clause-adds : goal.returns-then-has_room-clause-adds
 returns-then-has_room-clause-adds g c = λ start.
     adds_nothing _ _ _ _ _ refl
-    (λ added h. opened_goes c.args.hub.now.bounds.terms c.begin_with.result start c.args.conn (held (entries_of (g.D.Dir.rows c.args.dir.now)) c.args.hub.now) (held (entries_of (g.D.Dir.rows c.hear.new.dir)) c.hear.new.self) _ _ _ added c.in-Ok.ensures.exact
-    (let all : c.count-has_room.result ≡ length c.args.hub.now.kept = c.count-has_room.ensures.exact in omega arith) c.begin_with.ensures.on_hold c.begin_with.ensures.ok h)
+    (λ added h. opened_goes {X = Unit {0}} {E = Unit {0}} c.args.hub.now.bounds.terms (Ok tt) start c.args.conn (held (entries_of (g.D.Dir.rows c.args.dir.now)) c.args.hub.now) (held (entries_of (g.D.Dir.rows c.hear.new.dir)) c.hear.new.self) _ _ _ added c.in-Ok.ensures.exact
+    (let all : c.count-has_room.result ≡ length c.args.hub.now.kept = c.count-has_room.ensures.exact in omega arith) c.begin_with.ensures.on_hold c.begin_with.ensures.covers h)
 
 -- it is hung up
 pub returns-else-has_room-clause-adds : goal.returns-else-has_room-clause-adds

@@ -1,4 +1,4 @@
-use Rattle.std.proofs.Common.{ap}
+use Rattle.std.proofs.Common.{Ok, ap}
 use Rattle.dir_tree.specs.tree.Numbered.{entries_of}
 use Rattle.session_model.specs.Kept.{Held}
 use Rattle.session_hub.specs.Parties.{DirectoryEntries, Requester}
@@ -10,7 +10,7 @@ use Rattle.session_hub.proofs.block.hear_on.Goals as goal
 -- its block begins
 pub returns-in-Ok-clause-leads : goal.returns-in-Ok-clause-leads
 returns-in-Ok-clause-leads g c = λ start added h.
-    heard_on c.args.hub.now.bounds.terms c.begin_with.result start c.args.conn c.args.heard _ _ _ _ _ added c.requires c.in-Ok.ensures.exact c.begin_with.ensures.on_hold c.begin_with.ensures.ok h
+    heard_on {X = Unit {0}} {E = Unit {0}} c.args.hub.now.bounds.terms (Ok tt) start c.args.conn c.args.heard _ _ _ _ _ added c.requires c.in-Ok.ensures.exact c.begin_with.ensures.on_hold c.begin_with.ensures.covers h
 
 -- no connection was opened
 pub returns-in-Err-clause-leads : goal.returns-in-Err-clause-leads
@@ -22,3 +22,6 @@ returns-in-Ok-clause-unkept g c = λ off. event_unkept _ _ (held (entries_of (g.
 
 pub returns-in-Err-clause-unkept : goal.returns-in-Err-clause-unkept
 returns-in-Err-clause-unkept g c = λ off. ap (λ (h : Held DirectoryEntries Requester). h.unstored) c.in-Err.ensures.kept
+
+pub returns-in-Err-clause-never : goal.returns-in-Err-clause-never
+returns-in-Err-clause-never g c = nothing_opens c.args.conn c.args.heard _ c.requires c.in-Err.ensures.cause

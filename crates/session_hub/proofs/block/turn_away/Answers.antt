@@ -1,9 +1,10 @@
-use Rattle.session_hub.proofs.block.BlockLemmas.{turned_goes, not_turned}
+use Rattle.std.proofs.Common.{Ok}
+use Rattle.session_hub.proofs.block.BlockLemmas.{covers_is, turned_goes, not_turned}
 use Rattle.session_hub.proofs.block.turn_away.Goals as goal
 
 -- it is hung up
 pub returns-in-Ok-clause-adds : goal.returns-in-Ok-clause-adds
-returns-in-Ok-clause-adds g c = λ terms start tree. turned_goes terms _ _ c.begin.result start tree c.args.conn c.args.hub.now _ _ _ _ _ _ _ c.in-Ok.ensures.tells c.drop_conn.ensures.exact c.begin.ensures.on_hold c.begin.ensures.ok
+returns-in-Ok-clause-adds g c = λ terms start tree. turned_goes {X = Unit {0}} {E = Unit {0}} terms _ _ (Ok tt) start tree c.args.conn c.args.hub.now _ _ _ _ _ _ _ c.in-Ok.ensures.tells c.drop_conn.ensures.exact c.begin.ensures.on_hold (covers_is _ _ c.begin.ensures.due)
 
 -- there was no memory
 pub returns-in-Err-clause-adds : goal.returns-in-Err-clause-adds

@@ -1,9 +1,12 @@
 use Rattle.std.proofs.Common.{sym, ◌∙◌}
-use Rattle.session_model.proofs.wire_io_proofs.Theorems.{LinkCause-given, LinkCause-starved}
+use Rattle.session_model.proofs.wire_io_proofs.Theorems.{LinkCause-given, LinkCause-starved, RefusalCause-never_falls, RefusalCause-starved}
+use Rattle.dir_tree.proofs.plain_values_proofs.Theorems.{NeverFalls-trans}
 use Rattle.session_hub.specs.hub.Hubs.{held}
 use Rattle.session_hub.specs.declared.ended.Ended.TheVariants as ended
 use Rattle.session_hub.proofs.serve.CauseLemmas.{ends_failed, ends_stopped, ends_starved, ends_unstored, ends_as, EndsFor-came}
-use Rattle.session_hub.proofs.serve.LoopLemmas.{unfinished_starved, unfinished_unstored, failing_kept}
+use Rattle.session_hub.proofs.serve.LoopLemmas.{unfinished_starved, unfinished_unstored, failing_kept, next_fails}
+use Rattle.session_hub.proofs.serve.StarveLemmas.{starves_cut, starves_refused, starves_block, starves_served, starves_apart, block_cause, block_kept, stopped_apart, failed_apart, unstored_apart}
+use Rattle.session_hub.proofs.serving.AddingLemmas.{rose_after}
 use Rattle.session_hub.proofs.serve.TurnLemmas.{turn_served, turn_cut, turn_stopped, turn_failed, turn_starved}
 use Rattle.session_hub.proofs.serve.hear_next.Goals as goal
 
@@ -62,3 +65,45 @@ returns-else-is_stop-clause-none g c =
 
 pub returns-else-is_stop-clause-faults : goal.returns-else-is_stop-clause-faults
 returns-else-is_stop-clause-faults g c = c.in-Ok-serve_event.ensures.cause ∙ LinkCause-given _ _ _ _ c.in-Ok.ensures.cause
+
+-- the cause of each want of memory
+pub returns-in-Err-Failed-clause-memory : goal.returns-in-Err-Failed-clause-memory
+returns-in-Err-Failed-clause-memory g c = λ entries count before first running kept.
+    starves_cut c.args.hub.now.bounds.terms entries count before _ _ (held _ c.args.hub.now) _ first _ _ ended.LinkFault running (next_fails _ _ _ c.next.new.buf _ c.in-Err-Failed.ensures.tells) failed_apart c.end_of.ensures
+
+pub returns-in-Err-NoMemory-clause-memory : goal.returns-in-Err-NoMemory-clause-memory
+returns-in-Err-NoMemory-clause-memory g c = λ entries count before first running kept.
+    starves_refused c.args.hub.now.bounds.terms entries count before _ _ (held _ c.args.hub.now) _ first _ _ running (next_fails _ _ _ c.next.new.buf _ c.in-Err-NoMemory.ensures.tells)
+    (rose_after kept (RefusalCause-starved _ _ _ (rw c.in-Err-NoMemory.field-0-is at c.in-Err-NoMemory.ensures.refusals)))
+
+pub returns-in-Err-Failed-serve_event-clause-memory : goal.returns-in-Err-Failed-serve_event-clause-memory
+returns-in-Err-Failed-serve_event-clause-memory g c = λ entries count before first running kept. starves_apart c.args.hub.now.bounds.terms entries _ before _ first _ ended.StoreFault unstored_apart
+
+pub returns-in-Err-NoMemory-serve_event-clause-memory : goal.returns-in-Err-NoMemory-serve_event-clause-memory
+returns-in-Err-NoMemory-serve_event-clause-memory g c = λ entries count before first running kept.
+    starves_block c.args.hub.now.bounds.terms entries _ count _ before _ _ _ _ _ c.next.new.buf c.in-Ok.heard first _ ended.NoMemory running c.in-Ok.ensures.tells (c.in-Err-NoMemory-serve_event.ensures.adds entries)
+    (block_cause _ c.in-Ok.heard first _ _ (NeverFalls-trans kept (RefusalCause-never_falls _ _ _ c.in-Ok.ensures.refusals)) (rw c.in-Err-NoMemory-serve_event.field-0-is at c.in-Err-NoMemory-serve_event.ensures.refusals))
+
+pub returns-then-is_stop-clause-memory : goal.returns-then-is_stop-clause-memory
+returns-then-is_stop-clause-memory g c = λ entries count before first running kept.
+    starves_served c.args.hub.now.bounds.terms entries count _ before _ _ _ _ (held _ c.serve_event.new.hub) _ _ c.next.new.buf c.in-Ok.heard first _ _ ended.Stopped running c.in-Ok.ensures.tells
+    (c.in-Ok-serve_event.ensures.adds entries) stopped_apart c.end_of-then-is_stop.ensures
+
+-- no refusal is taken back
+pub returns-in-Err-Failed-clause-refusals : goal.returns-in-Err-Failed-clause-refusals
+returns-in-Err-Failed-clause-refusals g c = RefusalCause-never_falls _ _ _ c.in-Err-Failed.ensures.refusals
+
+pub returns-in-Err-NoMemory-clause-refusals : goal.returns-in-Err-NoMemory-clause-refusals
+returns-in-Err-NoMemory-clause-refusals g c = RefusalCause-never_falls _ _ _ c.in-Err-NoMemory.ensures.refusals
+
+pub returns-in-Err-Failed-serve_event-clause-refusals : goal.returns-in-Err-Failed-serve_event-clause-refusals
+returns-in-Err-Failed-serve_event-clause-refusals g c = NeverFalls-trans (RefusalCause-never_falls _ _ _ c.in-Ok.ensures.refusals) (block_kept _ _ _ _ c.in-Err-Failed-serve_event.ensures.refusals)
+
+pub returns-in-Err-NoMemory-serve_event-clause-refusals : goal.returns-in-Err-NoMemory-serve_event-clause-refusals
+returns-in-Err-NoMemory-serve_event-clause-refusals g c = NeverFalls-trans (RefusalCause-never_falls _ _ _ c.in-Ok.ensures.refusals) (block_kept _ _ _ _ c.in-Err-NoMemory-serve_event.ensures.refusals)
+
+pub returns-then-is_stop-clause-refusals : goal.returns-then-is_stop-clause-refusals
+returns-then-is_stop-clause-refusals g c = NeverFalls-trans (RefusalCause-never_falls _ _ _ c.in-Ok.ensures.refusals) c.in-Ok-serve_event.ensures.refusals
+
+pub returns-else-is_stop-clause-refusals : goal.returns-else-is_stop-clause-refusals
+returns-else-is_stop-clause-refusals g c = NeverFalls-trans (RefusalCause-never_falls _ _ _ c.in-Ok.ensures.refusals) c.in-Ok-serve_event.ensures.refusals

@@ -5,6 +5,7 @@ use Rattle.dir_tree.specs.tree.Numbered.{entries_of}
 use Rattle.session_hub.proofs.serve.LoopLemmas.{running_start, running_starved}
 use Rattle.session_hub.proofs.serve.CauseLemmas.{ends_starved, ends_at}
 use Rattle.session_hub.proofs.serve.PlayLemmas.{playing_start, plays_ended}
+use Rattle.session_hub.proofs.serve.StarveLemmas.{starves_first, starves_at}
 use Rattle.session_hub.proofs.serve.TwinServingLemmas.{serves_twins, starved_twins}
 use Rattle.session_hub.proofs.serve.serve_loop.Goals as goal
 
@@ -58,3 +59,17 @@ pub returns-clause-cause : goal.returns-clause-cause
 returns-clause-cause g c =
     let same : c.in-Ok.hub.bounds.terms.keeps ≡ c.args.bounds.terms.keeps = ap (λ (hub : HubState). hub.bounds.terms.keeps) c.in-Ok.ensures.ok in
     ends_at _ _ _ _ _ _ same c.serve_in.ensures.cause
+
+pub returns-in_default-clause-memory : goal.returns-in_default-clause-memory
+returns-in_default-clause-memory g c = starves_first c.args.bounds.terms _ _ _ _ _
+
+pub returns-in_default-new-clause-memory : goal.returns-in_default-new-clause-memory
+returns-in_default-new-clause-memory g c = starves_first c.args.bounds.terms _ _ _ _ _
+
+pub returns-in_default-new_buffer-clause-memory : goal.returns-in_default-new_buffer-clause-memory
+returns-in_default-new_buffer-clause-memory g c = starves_first c.args.bounds.terms _ _ _ _ _
+
+pub returns-clause-memory : goal.returns-clause-memory
+returns-clause-memory g c =
+    let same : c.in-Ok.hub.bounds.terms ≡ c.args.bounds.terms = ap (λ (hub : HubState). hub.bounds.terms) c.in-Ok.ensures.ok in
+    starves_at _ _ _ _ _ _ _ _ _ same c.serve_in.ensures.memory

@@ -3,6 +3,9 @@ use Rattle.session_hub.specs.hub.Hubs.{held}
 use Rattle.session_hub.specs.declared.ended.Ended.TheVariants as ended
 use Rattle.session_hub.proofs.serve.CauseLemmas.{ends_starved, ends_synced, ends_unstored}
 use Rattle.session_hub.proofs.serve.LoopLemmas.{unfinished_starved, unfinished_unstored}
+use Rattle.session_model.proofs.wire_io_proofs.Theorems.{RefusalCause-never_falls, RefusalCause-starved}
+use Rattle.session_hub.proofs.serve.StarveLemmas.{starves_refused, starves_apart, starves_synced, unstored_apart}
+use Rattle.session_hub.proofs.serving.AddingLemmas.{rose_after}
 use Rattle.session_hub.proofs.serve.TurnLemmas.{synced_goes_on, synced_ends_with, turn_unsynced}
 use Rattle.session_hub.proofs.serve.take_turn.Goals as goal
 
@@ -36,3 +39,25 @@ returns-in-Err-NoMemory-clause-some g c =
 
 pub returns-in-Err-NoMemory-clause-cause : goal.returns-in-Err-NoMemory-clause-cause
 returns-in-Err-NoMemory-clause-cause g c = ends_starved _ _ _ _ (rw c.in-Err-NoMemory.field-0-is at c.in-Err-NoMemory.ensures.cause)
+
+-- the cause of each want of memory
+pub returns-in-Ok-clause-memory : goal.returns-in-Ok-clause-memory
+returns-in-Ok-clause-memory g c = starves_synced _ _ _ _ _ _ _ _ _ _ _ c.in-Ok.ensures.tells (RefusalCause-never_falls _ _ _ c.in-Ok.ensures.refusals) c.hear_next.ensures.memory
+
+pub returns-in-Err-Failed-clause-memory : goal.returns-in-Err-Failed-clause-memory
+returns-in-Err-Failed-clause-memory g c = λ entries count before first running kept. starves_apart c.args.hub.now.bounds.terms entries _ before _ first _ ended.StoreFault unstored_apart
+
+pub returns-in-Err-NoMemory-clause-memory : goal.returns-in-Err-NoMemory-clause-memory
+returns-in-Err-NoMemory-clause-memory g c = λ entries count before first running kept.
+    starves_refused c.args.hub.now.bounds.terms entries count before _ _ (held _ c.args.hub.now) _ first _ _ running c.in-Err-NoMemory.ensures.tells
+    (rose_after kept (RefusalCause-starved _ _ _ (rw c.in-Err-NoMemory.field-0-is at c.in-Err-NoMemory.ensures.refusals)))
+
+-- no refusal is taken back
+pub returns-in-Ok-clause-refusals : goal.returns-in-Ok-clause-refusals
+returns-in-Ok-clause-refusals g c = NeverFalls-trans (RefusalCause-never_falls _ _ _ c.in-Ok.ensures.refusals) c.hear_next.ensures.refusals
+
+pub returns-in-Err-Failed-clause-refusals : goal.returns-in-Err-Failed-clause-refusals
+returns-in-Err-Failed-clause-refusals g c = RefusalCause-never_falls _ _ _ c.in-Err-Failed.ensures.refusals
+
+pub returns-in-Err-NoMemory-clause-refusals : goal.returns-in-Err-NoMemory-clause-refusals
+returns-in-Err-NoMemory-clause-refusals g c = RefusalCause-never_falls _ _ _ c.in-Err-NoMemory.ensures.refusals

@@ -1,5 +1,5 @@
 use Rattle.session_hub.specs.hub.Hubs.{held}
-use Rattle.session_hub.proofs.serving.AddingLemmas.{adds_after, serves_then}
+use Rattle.session_hub.proofs.serving.AddingLemmas.{adds_after, serves_then, wants_after}
 use Rattle.session_hub.proofs.serving.finish.Goals as goal
 
 -- it isn't on hold any more
@@ -12,4 +12,7 @@ pub returns-in-Err-clause-adds : goal.returns-in-Err-clause-adds
 returns-in-Err-clause-adds g c = λ terms start tree due. c.in-Err.ensures.adds terms start due (held tree c.args.hub.now)
 
 pub returns-in-Ok-clause-serves : goal.returns-in-Ok-clause-serves
-returns-in-Ok-clause-serves g c = serves_then _ _ _ _ _ _ _ _ _ c.in-Ok.ensures.serves c.hang_up_closing.ensures.serves
+returns-in-Ok-clause-serves g c = serves_then _ _ _ _ _ _ _ _ _ _ _ _ c.in-Ok.ensures.serves c.hang_up_closing.ensures.serves
+
+pub returns-in-Ok-clause-wants : goal.returns-in-Ok-clause-wants
+returns-in-Ok-clause-wants g c = wants_after _ c.in-Ok.ensures.serves.refusals c.hang_up_closing.ensures.wants

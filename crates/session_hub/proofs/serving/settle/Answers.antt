@@ -1,5 +1,5 @@
 use Rattle.session_hub.specs.hub.Hubs.{held}
-use Rattle.session_hub.proofs.serving.AddingLemmas.{adds_after, serves_then}
+use Rattle.session_hub.proofs.serving.AddingLemmas.{adds_after, serves_then, wants_after}
 use Rattle.session_hub.proofs.serving.ServingLemmas.{sent_all, sent_later, sent_gone}
 use Rattle.session_hub.proofs.serving.settle.Goals as goal
 
@@ -24,10 +24,19 @@ pub returns-in-Err-clause-adds : goal.returns-in-Err-clause-adds
 returns-in-Err-clause-adds g c = λ terms start tree due. c.in-Err.ensures.adds terms start tree due _
 
 pub returns-in-Ok-All-clause-serves : goal.returns-in-Ok-All-clause-serves
-returns-in-Ok-All-clause-serves g c = serves_then _ _ _ _ _ _ _ _ _ c.in-Ok-All.ensures.serves c.finish.ensures.serves
+returns-in-Ok-All-clause-serves g c = serves_then _ _ _ _ _ _ _ _ _ _ _ _ c.in-Ok-All.ensures.serves c.finish.ensures.serves
 
 pub returns-in-Ok-Later-clause-serves : goal.returns-in-Ok-Later-clause-serves
-returns-in-Ok-Later-clause-serves g c = serves_then _ _ _ _ _ _ _ _ _ c.in-Ok-Later.ensures.serves c.hold_back.ensures.serves
+returns-in-Ok-Later-clause-serves g c = serves_then _ _ _ _ _ _ _ _ _ _ _ _ c.in-Ok-Later.ensures.serves c.hold_back.ensures.serves
 
 pub returns-in-Ok-Gone-clause-serves : goal.returns-in-Ok-Gone-clause-serves
-returns-in-Ok-Gone-clause-serves g c = serves_then _ _ _ _ _ _ _ _ _ c.in-Ok-Gone.ensures.serves c.drop_lost.ensures.serves
+returns-in-Ok-Gone-clause-serves g c = serves_then _ _ _ _ _ _ _ _ _ _ _ _ c.in-Ok-Gone.ensures.serves c.drop_lost.ensures.serves
+
+pub returns-in-Ok-All-clause-wants : goal.returns-in-Ok-All-clause-wants
+returns-in-Ok-All-clause-wants g c = wants_after _ c.in-Ok-All.ensures.serves.refusals c.finish.ensures.wants
+
+pub returns-in-Ok-Later-clause-wants : goal.returns-in-Ok-Later-clause-wants
+returns-in-Ok-Later-clause-wants g c = wants_after _ c.in-Ok-Later.ensures.serves.refusals c.hold_back.ensures.wants
+
+pub returns-in-Ok-Gone-clause-wants : goal.returns-in-Ok-Gone-clause-wants
+returns-in-Ok-Gone-clause-wants g c = wants_after _ c.in-Ok-Gone.ensures.serves.refusals c.drop_lost.ensures.wants
