@@ -53,7 +53,6 @@ fn greet<D: Dir, L: Link>(
     }
 }
 
-#[tactic(auto, unfolding(session_model::specs::wire_io::Answers::NoteRefusal))]
 /// Hangs up a connection for which there is no room.
 fn turn_away<L: Link>(
     hub: &mut Hub,
@@ -151,7 +150,6 @@ fn begin_block<D: Dir, L: Link>(
     }
 }
 
-#[tactic(auto, unfolding(session_model::specs::wire_io::Answers::RefusalCause))]
 /// Has the link store the changes that aren't stored yet, if there are any.
 fn store_changes<L: Link>(hub: &mut Hub, link: &mut L) -> Result<(), NextFault>
     ensures adds { (terms : Terms) (start tree : DirectoryEntries) (due on_hold : List ℕ) → Adds (L.plan link.old)

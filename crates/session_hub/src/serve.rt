@@ -43,7 +43,6 @@ fn end_of(hub: &Hub, ended: Ended) -> Ended
     }
 }
 
-#[tactic(auto, unfolding(session_model::specs::wire_io::Answers::RefusalCause))]
 /// Has the link see to it that what was stored is on the disk, where changes are kept.
 fn sync_changes<L: Link>(hub: &Hub, link: &mut L) -> Result<(), NextFault>
     ensures tells { L.journal link.new ≡ L.journal link.old }

@@ -44,7 +44,6 @@ pub fn send_queue<L: Link>(hub: &mut Hub, link: &mut L, conn: u32) -> Result<Sen
     }
 }
 
-#[tactic(auto, unfolding(session_model::specs::wire_io::Answers::NoteRefusal))]
 /// Forgets a connection that was found lost, and hangs it up.
 fn drop_lost<L: Link>(
     hub: &mut Hub,
@@ -73,7 +72,6 @@ fn drop_lost<L: Link>(
     }
 }
 
-#[tactic(auto, unfolding(session_model::specs::wire_io::Answers::NoteRefusal))]
 /// Puts a connection on hold that takes no more now, unless it is on hold already.
 fn hold_back<L: Link>(waiting: &mut Waiting, link: &mut L, conn: u32) -> Result<(), AllocError>
     ensures adds { (terms : Terms) (start : DirectoryEntries) (due : List ℕ) (hub : Held DirectoryEntries Requester) → Adds (L.plan link.old)
@@ -92,7 +90,6 @@ fn hold_back<L: Link>(waiting: &mut Waiting, link: &mut L, conn: u32) -> Result<
     link.hold(conn)
 }
 
-#[tactic(auto, unfolding(session_model::specs::wire_io::Answers::NoteRefusal))]
 /// Releases a connection to which nothing is left to be sent, if it is on hold.
 fn let_go<L: Link>(waiting: &mut Waiting, link: &mut L, conn: u32) -> Result<(), AllocError>
     ensures adds { (terms : Terms) (start : DirectoryEntries) (due : List ℕ) (hub : Held DirectoryEntries Requester) → Adds (L.plan link.old)
@@ -116,7 +113,6 @@ fn let_go<L: Link>(waiting: &mut Waiting, link: &mut L, conn: u32) -> Result<(),
     }
 }
 
-#[tactic(auto, unfolding(session_model::specs::wire_io::Answers::NoteRefusal))]
 /// Hangs up a connection to which nothing is left to be sent, if it is closing.
 fn hang_up_closing<L: Link>(hub: &mut Hub, link: &mut L, conn: u32) -> Result<(), AllocError>
     ensures adds { (terms : Terms) (start tree : DirectoryEntries) (due on_hold : List ℕ) → Adds (L.plan link.old)

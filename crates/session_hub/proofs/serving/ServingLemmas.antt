@@ -1,13 +1,14 @@
 -- The calls of a link within a block.
-use Rattle.std.proofs.Common.{◌≡◌, ◌≢◌, ◌≤◌, ◌<◌, ◌==◌, ℕ, nat_eq, true, false, List, [], ◌∷◌, ◌++◌, length, take, drop, Option, Result, Ok, Err, refl, ap, sym, ◌∙◌, subst, arith, length-drop, drop_of_length-le}
+use Rattle.std.proofs.Common.{◌≡◌, ◌≢◌, ◌≤◌, ◌<◌, ◌==◌, ℕ, nat_eq, true, false, List, [], ◌∷◌, ◌++◌, length, take, drop, Option, Result, Ok, Err, OnErr, refl, ap, sym, ◌∙◌, subst, arith, length-drop, drop_of_length-le}
 use Rattle.std.specs.List.{IsDistinct}
 use Rattle.std.proofs.lemmas.Bool.Decides.{nat_tests}
+use Rattle.dir_tree.specs.plain_values.Counts.{Rose}
 use Rattle.session_model.specs.wire_io.declared.journal.Item.{Item}
 use Rattle.session_model.specs.wire_io.declared.journal.Item.TheVariants as item
 use Rattle.session_model.specs.wire_io.declared.answers.Took.TheVariants as took
 use Rattle.session_model.specs.wire_io.Journal.{heard, was_stopped, stops}
 use Rattle.session_model.specs.wire_io.link.Plan.{Plan}
-use Rattle.session_model.specs.wire_io.Answers.{WriteCause}
+use Rattle.session_model.specs.wire_io.Answers.{WriteCause, NoteRefusal}
 use Rattle.session_model.specs.wire_io.link.Telling.{TookTells, NoteTells}
 use Rattle.session_model.proofs.wire_io_proofs.Theorems.{WriteCause-never_later, WriteCause-never_gone}
 use Rattle.session_model.specs.Run.{most_held}
@@ -223,3 +224,9 @@ pub none_due : (terms : Terms) (plan : Option Plan) (start : DirectoryEntries) (
     Adds plan P (IsServing terms start due hub on_hold) a b → Adds plan P (IsServing terms start [] hub now) a b
 none_due terms plan start due on_hold now hub P a b none stays adds =
     subst (λ xs. Adds plan P (IsServing terms start [] hub xs) a b) (sym stays) (subst (λ xs. Adds plan P (IsServing terms start xs hub on_hold) a b) none adds)
+
+-- what refuses to note an item is counted
+pub note_wants : {E : Type 0} (before after : ℕ) (result : Result (Unit {0}) E) → NoteRefusal before after result → OnErr result (Rose before after)
+unfolding NoteRefusal
+note_wants before after (Ok done) refusal = tt
+note_wants before after (Err want) refusal = refusal

@@ -3,6 +3,8 @@ use Rattle.session_model.proofs.wire_io_proofs.Theorems.{LinkCause-given}
 use Rattle.session_hub.proofs.serving.AddingLemmas.{adds_nothing}
 use Rattle.session_hub.proofs.serving.ServingLemmas.{emptied, some_queued}
 use Rattle.session_hub.proofs.block.StoreLemmas.{stores, not_stored, store_failed}
+use Rattle.dir_tree.proofs.plain_values_proofs.Theorems.{NeverFalls-refl}
+use Rattle.session_model.specs.wire_io.Answers.{RefusalCause}
 use Rattle.session_hub.proofs.block.store_changes.Goals as goal
 
 -- nothing is to be stored
@@ -26,3 +28,8 @@ returns-in-Err-clause-adds g c = λ terms start tree due on_hold. not_stored ter
 pub returns-in-Err-clause-cause : goal.returns-in-Err-clause-cause
 returns-in-Err-clause-cause g c =
     store_failed _ _ _ _ _ (subst (λ xs. xs ≢ []) c.unstored-unstored.ensures (some_queued c.unstored-unstored.result.now (sym c.if-is_empty.false ∙ c.is_empty.ensures))) c.in-Err.ensures.cause
+
+-- no refusal is taken back
+pub returns-then-is_empty-clause-refusals : goal.returns-then-is_empty-clause-refusals
+unfolding RefusalCause
+returns-then-is_empty-clause-refusals g c = NeverFalls-refl _

@@ -1,5 +1,6 @@
 use Rattle.std.proofs.Common.{sym, ◌∙◌}
 use Rattle.session_hub.proofs.serving.ServingLemmas.{stays_free, lets_go, not_let_go}
+use Rattle.session_model.proofs.wire_io_proofs.Theorems.{NoteRefusal-never_falls, NoteRefusal-starved}
 use Rattle.session_hub.proofs.serving.let_go.Goals as goal
 
 -- it isn't on hold
@@ -13,3 +14,12 @@ returns-in-Ok-clause-adds g c = λ terms start due hub. lets_go terms _ _ start 
 -- there was no memory
 pub returns-in-Err-clause-adds : goal.returns-in-Err-clause-adds
 returns-in-Err-clause-adds g c = λ terms start due hub. not_let_go terms _ start c.args.conn due _ hub _ _ _ _ c.in-Err.ensures.tells
+
+pub returns-in-Ok-clause-serves : goal.returns-in-Ok-clause-serves
+returns-in-Ok-clause-serves g c = record { plan = c.in-Ok.ensures.plan; faults = c.in-Ok.ensures.faults; lost = c.in-Ok.ensures.lost; refusals = NoteRefusal-never_falls _ _ _ c.in-Ok.ensures.refusals }
+
+pub returns-in-Err-clause-serves : goal.returns-in-Err-clause-serves
+returns-in-Err-clause-serves g c = record { plan = c.in-Err.ensures.plan; faults = c.in-Err.ensures.faults; lost = c.in-Err.ensures.lost; refusals = NoteRefusal-never_falls _ _ _ c.in-Err.ensures.refusals }
+
+pub returns-in-Err-clause-wants : goal.returns-in-Err-clause-wants
+returns-in-Err-clause-wants g c = NoteRefusal-starved _ _ _ _ c.in-Err.ensures.refusals
