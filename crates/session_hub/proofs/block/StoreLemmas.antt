@@ -1,6 +1,5 @@
 -- What changed is stored before anybody is served.
-use Rattle.std.proofs.Common.{◌≡◌, ◌≢◌, ℕ, Bool, true, false, List, [], ◌∷◌, ◌++◌, Option, Result, Ok, Err, refl, ap, sym, ◌∙◌, subst}
-use Rattle.dir_tree.specs.plain_values.Counts.{Rose}
+use Rattle.std.proofs.Common.{◌≡◌, ◌≢◌, ℕ, Bool, true, false, List, [], ◌∷◌, ◌++◌, Option, Result, Ok, Err, refl, sym, ◌∙◌, subst}
 use Rattle.session_model.specs.wire_io.declared.answers.NextFault.{NextFault}
 use Rattle.session_model.specs.wire_io.declared.answers.NextFault.TheVariants as fault
 use Rattle.session_model.specs.wire_io.declared.journal.Item.{Item}

@@ -2,8 +2,8 @@
 use Rattle.std.proofs.Common.{◌≡◌, ℕ, Bool, true, false, cond, List, [], ◌∷◌, ◌++◌, Option, Some, None, refl, ap, ap₂, ◌∙◌, append-nil}
 use Rattle.session_model.specs.ldap_msg.declared.kinds.Message.{Message}
 use Rattle.session_model.specs.ldap_msg.reading.Messages.{message_of}
-use Rattle.session_model.specs.ldap_msg.Streams.{whole, is_broken}
-use Rattle.session_model.specs.Rules.{Answered, after_octets, talk, up_to, ending}
+use Rattle.session_model.specs.ldap_msg.Streams.{whole}
+use Rattle.session_model.specs.Rules.{Answered, after_octets, talk, up_to}
 use Rattle.session_model.specs.Run.{Step, Opened, Bytes, Ended, Gone, HungUp}
 use Rattle.session_model.specs.Kept.{Kept, Held, kept_of, speech, heard, hears_kept}
 use Rattle.session_hub.specs.Parties.{DirectoryEntries, Requester}

@@ -1,5 +1,5 @@
 -- What answers, and so sessions, leave of a good tree.
-use Rattle.std.proofs.Common.{ℕ, Bool, true, false, List, Option, Some, None, if◌then◌else◌}
+use Rattle.std.proofs.Common.{Bool, true, false, List, Option, Some, None, if◌then◌else◌}
 use Rattle.session_model.specs.ldap_msg.declared.kinds.ModifyRequest.{ModifyRequest}
 use Rattle.session_model.specs.ldap_msg.declared.kinds.RenameRequest.{RenameRequest}
 use Rattle.session_model.specs.ldap_msg.declared.kinds.AddRequest.{AddRequest}

@@ -1,19 +1,17 @@
 -- Why a loop ended for want of memory.
 use Rattle.std.specs.Prelude.{IfSome}
-use Rattle.std.proofs.Common.{◌≡◌, ◌⊎◌, inl, inr, ℕ, Bool, true, false, List, [], ◌∷◌, ◌++◌, Option, Some, None, Result, Ok, Err, refl, ap, sym, ◌∙◌, subst, append-nil}
+use Rattle.std.proofs.Common.{◌≡◌, ◌⊎◌, inl, inr, ℕ, Bool, true, false, List, [], ◌∷◌, ◌++◌, Option, Some, None, Ok, refl, ap, sym, ◌∙◌, subst, append-nil}
 use Rattle.dir_tree.specs.plain_values.Counts.{Rose, NeverFalls}
 use Rattle.dir_tree.proofs.plain_values_proofs.Theorems.{NeverFalls-trans}
 use Rattle.session_model.specs.wire_io.declared.answers.Heard.{Heard as Answer}
 use Rattle.session_model.specs.wire_io.declared.answers.Heard.TheVariants as answer
 use Rattle.session_model.specs.wire_io.declared.answers.NextFault.{NextFault}
-use Rattle.session_model.specs.wire_io.declared.answers.NextFault.TheVariants as fault
 use Rattle.session_model.specs.wire_io.declared.journal.Event.{Event}
-use Rattle.session_model.specs.wire_io.declared.journal.Event.TheVariants as event
 use Rattle.session_model.specs.wire_io.declared.journal.Item.{Item}
 use Rattle.session_model.specs.wire_io.Journal.{heard}
 use Rattle.session_model.specs.wire_io.link.Telling.{event_of, NextTells}
 use Rattle.session_model.specs.wire_io.link.Plan.{Plan}
-use Rattle.session_model.specs.Run.{Sessions}
+use Rattle.session_model.specs.Run.{Sessions, Step}
 use Rattle.session_model.specs.Kept.{Held}
 use Rattle.session_model.specs.Serving.{Leads}
 use Rattle.session_model.proofs.Theorems.{works_start, works_leads}
@@ -22,8 +20,8 @@ use Rattle.session_hub.specs.Terms.{Terms}
 use Rattle.session_hub.specs.declared.ended.Ended.{Ended}
 use Rattle.session_hub.specs.declared.ended.Ended.TheVariants as ended
 use Rattle.session_hub.specs.Answering.{rules}
-use Rattle.session_hub.specs.serve.Loops.{Starves, IsStarved, OpensLast, ends_with}
-use Rattle.session_hub.specs.Adding.{Adds, IsServing, IsHeard, IsOpening, BlockRefusal, stops_with}
+use Rattle.session_hub.specs.serve.Loops.{Starves, IsStarved, MemoryCause, OpensLast, ends_with}
+use Rattle.session_hub.specs.Adding.{Adds, IsServing, IsHeard, IsOpening}
 use Rattle.session_hub.specs.serve.Turns.{Running, StarvesFrom}
 use Rattle.session_hub.proofs.serving.AddingLemmas.{rose_after}
 use Rattle.session_hub.proofs.serve.LoopLemmas.{is_stop, serve_on}
@@ -79,11 +77,11 @@ pub starves_block : (terms : Terms) (entries left : DirectoryEntries) (n : ℕ) 
 unfolding Starves
 starves_block terms entries left n plan before now noted after hub on_hold buf given first last end running tells adds cause begun at starved =
     let so = serve_on terms entries n (is_stop (event_of buf given)) plan before now noted after hub on_hold (Leads (rules terms) entries left) buf given running tells refl adds begun at in
-    (so.0, so.1, record { leads = so.2.holds; cause = by_cause so.0 so.2.earlier so.2.last cause })
+    (so.0, so.1, record { leads = so.2.holds; cause = by_cause so.2.holds.steps so.0 so.2.earlier so.2.last cause })
   where
-    by_cause : (added : List Item) (earlier : List Event) → heard added ≡ earlier ++ event_of buf given ∷ [] → IsOpening given ⊎ Rose first last → (heard added ≡ []) ⊎ OpensLast added ⊎ (_ ⊎ Rose first last)
-    by_cause added earlier is_last (inl opening) = inr (inl (opens_last buf given added earlier opening is_last))
-    by_cause added earlier is_last (inr rose) = inr (inr (inr rose))
+    by_cause : (steps : List Step) (added : List Item) (earlier : List Event) → heard added ≡ earlier ++ event_of buf given ∷ [] → IsOpening given ⊎ Rose first last → MemoryCause steps added first last
+    by_cause steps added earlier is_last (inl opening) = inr (inl (opens_last buf given added earlier opening is_last))
+    by_cause steps added earlier is_last (inr rose) = inr (inr (inr rose))
 
 -- it ends once an event was served, and some connection was cut
 pub starves_served : (terms : Terms) (entries : DirectoryEntries) (n : ℕ) (plan : Option Plan) (before now noted after : Option (List Item)) (hub hub_after : Held DirectoryEntries Requester) (on_hold on_hold_after : List ℕ) (buf : List ℕ) (given : Answer)
@@ -116,18 +114,10 @@ starves_synced terms None old now after hub on_hold first before last left same 
 starves_synced terms (Some end) old now after hub on_hold first before last left same kept starves = λ entries count earlier start running under.
     starves entries count earlier start (subst (λ journal. Running terms entries count earlier journal hub on_hold) (sym same) running) (NeverFalls-trans under kept)
 
--- the cause of a block's end for want of memory, and that it never takes a refusal back
-pub block_cause : (X : Type 0) (given : Answer) (first before after : ℕ) → NeverFalls first before → BlockRefusal {X = X} given before after (Err fault.NoMemory) → IsOpening given ⊎ Rose first after
-block_cause X given first before after kept refusal = by_cause refusal.1
-  where
-    by_cause : IsOpening given ⊎ Rose before after → IsOpening given ⊎ Rose first after
-    by_cause (inl opening) = inl opening
-    by_cause (inr rose) = inr (rose_after kept rose)
-
-pub block_kept : {X : Type 0} (given : Answer) (before after : ℕ) (result : Result X NextFault) → BlockRefusal given before after result → NeverFalls before after
-block_kept given before after (Ok value) refusal = refusal
-block_kept given before after (Err fault.Failed) refusal = refusal
-block_kept given before after (Err fault.NoMemory) refusal = refusal.0
+-- the cause of a block's end for want of memory, from however early refusals are counted
+pub block_cause : (given : Answer) (first before after : ℕ) → NeverFalls first before → IsOpening given ⊎ Rose before after → IsOpening given ⊎ Rose first after
+block_cause given first before after kept (inl opening) = inl opening
+block_cause given first before after kept (inr rose) = inr (rose_after kept rose)
 
 pub stopped_apart : ended.Stopped ≡ ended.NoMemory → ⊥
 stopped_apart h = cc

@@ -94,6 +94,6 @@ rose_after {first = first} {before = before} {after = after} kept rise = record 
     over below (inl above) = inl (omega arith)
     over below (inr last) = inr last
 
-pub wants_after : {X E : Type 0} (result : Result X E) {first before after : ℕ} → NeverFalls first before → OnErr result (Rose before after) → OnErr result (Rose first after)
-wants_after (Ok value) kept wants = tt
-wants_after (Err fault) kept wants = rose_after kept wants
+pub wants_after : {X E : Type 0} {first before : ℕ} (after : ℕ) (result : Result X E) → NeverFalls first before → OnErr result (Rose before after) → OnErr result (Rose first after)
+wants_after after (Ok value) kept wants = tt
+wants_after after (Err fault) kept wants = rose_after kept wants

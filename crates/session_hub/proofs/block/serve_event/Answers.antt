@@ -1,9 +1,7 @@
-use Rattle.std.proofs.Common.{◌∙◌, inl}
+use Rattle.std.proofs.Common.{inl}
 use Rattle.dir_tree.specs.tree.Numbered.{entries_of}
-use Rattle.dir_tree.proofs.plain_values_proofs.Theorems.{NeverFalls-trans}
 use Rattle.session_hub.proofs.serving.AddingLemmas.{adds_after}
 use Rattle.session_hub.proofs.block.BlockLemmas.{block_refused}
-use Rattle.session_hub.proofs.block.StoreLemmas.{cause_kept, keeps_some}
 use Rattle.session_hub.proofs.block.serve_event.Goals as goal
 
 -- its block is begun and ended

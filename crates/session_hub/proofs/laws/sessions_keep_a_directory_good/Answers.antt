@@ -1,4 +1,3 @@
-use Rattle.std.proofs.Common.{ℕ}
 use Rattle.op_read.specs.aci_item.Rules.{IsGoodTree}
 use Rattle.session_model.specs.Rules.{AnswersKeep}
 use Rattle.session_model.proofs.Theorems.{run_claim, replayed_claim, places_claim, replay_places_claim, connection_claim, replay_connection_claim}

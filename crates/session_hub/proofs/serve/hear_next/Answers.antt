@@ -5,7 +5,7 @@ use Rattle.session_hub.specs.hub.Hubs.{held}
 use Rattle.session_hub.specs.declared.ended.Ended.TheVariants as ended
 use Rattle.session_hub.proofs.serve.CauseLemmas.{ends_failed, ends_stopped, ends_starved, ends_unstored, ends_as, EndsFor-came}
 use Rattle.session_hub.proofs.serve.LoopLemmas.{unfinished_starved, unfinished_unstored, failing_kept, next_fails}
-use Rattle.session_hub.proofs.serve.StarveLemmas.{starves_cut, starves_refused, starves_block, starves_served, starves_apart, block_cause, block_kept, stopped_apart, failed_apart, unstored_apart}
+use Rattle.session_hub.proofs.serve.StarveLemmas.{starves_cut, starves_refused, starves_block, starves_served, starves_apart, block_cause, stopped_apart, failed_apart, unstored_apart}
 use Rattle.session_hub.proofs.serving.AddingLemmas.{rose_after}
 use Rattle.session_hub.proofs.serve.TurnLemmas.{turn_served, turn_cut, turn_stopped, turn_failed, turn_starved}
 use Rattle.session_hub.proofs.serve.hear_next.Goals as goal
@@ -82,7 +82,7 @@ returns-in-Err-Failed-serve_event-clause-memory g c = λ entries count before fi
 pub returns-in-Err-NoMemory-serve_event-clause-memory : goal.returns-in-Err-NoMemory-serve_event-clause-memory
 returns-in-Err-NoMemory-serve_event-clause-memory g c = λ entries count before first running kept.
     starves_block c.args.hub.now.bounds.terms entries _ count _ before _ _ _ _ _ c.next.new.buf c.in-Ok.heard first _ ended.NoMemory running c.in-Ok.ensures.tells (c.in-Err-NoMemory-serve_event.ensures.adds entries)
-    (block_cause _ c.in-Ok.heard first _ _ (NeverFalls-trans kept (RefusalCause-never_falls _ _ _ c.in-Ok.ensures.refusals)) (rw c.in-Err-NoMemory-serve_event.field-0-is at c.in-Err-NoMemory-serve_event.ensures.refusals))
+    (block_cause c.in-Ok.heard first _ _ (NeverFalls-trans kept (RefusalCause-never_falls _ _ _ c.in-Ok.ensures.refusals)) (rw c.in-Err-NoMemory-serve_event.field-0-is at c.in-Err-NoMemory-serve_event.ensures.refusals).1)
 
 pub returns-then-is_stop-clause-memory : goal.returns-then-is_stop-clause-memory
 returns-then-is_stop-clause-memory g c = λ entries count before first running kept.
@@ -97,10 +97,10 @@ pub returns-in-Err-NoMemory-clause-refusals : goal.returns-in-Err-NoMemory-claus
 returns-in-Err-NoMemory-clause-refusals g c = RefusalCause-never_falls _ _ _ c.in-Err-NoMemory.ensures.refusals
 
 pub returns-in-Err-Failed-serve_event-clause-refusals : goal.returns-in-Err-Failed-serve_event-clause-refusals
-returns-in-Err-Failed-serve_event-clause-refusals g c = NeverFalls-trans (RefusalCause-never_falls _ _ _ c.in-Ok.ensures.refusals) (block_kept _ _ _ _ c.in-Err-Failed-serve_event.ensures.refusals)
+returns-in-Err-Failed-serve_event-clause-refusals g c = NeverFalls-trans (RefusalCause-never_falls _ _ _ c.in-Ok.ensures.refusals) (rw c.in-Err-Failed-serve_event.field-0-is at c.in-Err-Failed-serve_event.ensures.refusals)
 
 pub returns-in-Err-NoMemory-serve_event-clause-refusals : goal.returns-in-Err-NoMemory-serve_event-clause-refusals
-returns-in-Err-NoMemory-serve_event-clause-refusals g c = NeverFalls-trans (RefusalCause-never_falls _ _ _ c.in-Ok.ensures.refusals) (block_kept _ _ _ _ c.in-Err-NoMemory-serve_event.ensures.refusals)
+returns-in-Err-NoMemory-serve_event-clause-refusals g c = NeverFalls-trans (RefusalCause-never_falls _ _ _ c.in-Ok.ensures.refusals) (rw c.in-Err-NoMemory-serve_event.field-0-is at c.in-Err-NoMemory-serve_event.ensures.refusals).0
 
 pub returns-then-is_stop-clause-refusals : goal.returns-then-is_stop-clause-refusals
 returns-then-is_stop-clause-refusals g c = NeverFalls-trans (RefusalCause-never_falls _ _ _ c.in-Ok.ensures.refusals) c.in-Ok-serve_event.ensures.refusals

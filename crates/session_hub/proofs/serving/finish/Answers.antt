@@ -15,4 +15,4 @@ pub returns-in-Ok-clause-serves : goal.returns-in-Ok-clause-serves
 returns-in-Ok-clause-serves g c = serves_then _ _ _ _ _ _ _ _ _ _ _ _ c.in-Ok.ensures.serves c.hang_up_closing.ensures.serves
 
 pub returns-in-Ok-clause-wants : goal.returns-in-Ok-clause-wants
-returns-in-Ok-clause-wants g c = wants_after _ c.in-Ok.ensures.serves.refusals c.hang_up_closing.ensures.wants
+returns-in-Ok-clause-wants g c = wants_after _ _ c.in-Ok.ensures.serves.refusals c.hang_up_closing.ensures.wants

@@ -33,10 +33,10 @@ pub returns-in-Ok-Gone-clause-serves : goal.returns-in-Ok-Gone-clause-serves
 returns-in-Ok-Gone-clause-serves g c = serves_then _ _ _ _ _ _ _ _ _ _ _ _ c.in-Ok-Gone.ensures.serves c.drop_lost.ensures.serves
 
 pub returns-in-Ok-All-clause-wants : goal.returns-in-Ok-All-clause-wants
-returns-in-Ok-All-clause-wants g c = wants_after _ c.in-Ok-All.ensures.serves.refusals c.finish.ensures.wants
+returns-in-Ok-All-clause-wants g c = wants_after _ _ c.in-Ok-All.ensures.serves.refusals c.finish.ensures.wants
 
 pub returns-in-Ok-Later-clause-wants : goal.returns-in-Ok-Later-clause-wants
-returns-in-Ok-Later-clause-wants g c = wants_after _ c.in-Ok-Later.ensures.serves.refusals c.hold_back.ensures.wants
+returns-in-Ok-Later-clause-wants g c = wants_after _ _ c.in-Ok-Later.ensures.serves.refusals c.hold_back.ensures.wants
 
 pub returns-in-Ok-Gone-clause-wants : goal.returns-in-Ok-Gone-clause-wants
-returns-in-Ok-Gone-clause-wants g c = wants_after _ c.in-Ok-Gone.ensures.serves.refusals c.drop_lost.ensures.wants
+returns-in-Ok-Gone-clause-wants g c = wants_after _ _ c.in-Ok-Gone.ensures.serves.refusals c.drop_lost.ensures.wants

@@ -1,4 +1,4 @@
-use Rattle.std.proofs.Common.{◌≡◌, ℕ, length}
+use Rattle.std.proofs.Common.{◌≡◌, length}
 use Rattle.session_hub.specs.Parties.{DirectoryEntries}
 use Rattle.session_hub.specs.Terms.{Terms}
 use Rattle.session_hub.specs.hub.Hubs.{held}
