@@ -11,6 +11,10 @@ mod sinks;
 #[cfg(test)]
 mod sockets;
 #[cfg(test)]
+mod steps;
+#[cfg(test)]
 mod stores;
+#[cfg(test)]
+mod talk;
 #[cfg(test)]
 mod values;

@@ -1,8 +1,12 @@
 //! Links that give the events of a script, at whose calls they fail, take nothing now or find a connection lost.
 
+use crate::steps::Answer::*;
+use crate::steps::Step::*;
+use crate::steps::{Row, ask};
 use std::alloc::{AllocError, Global};
+use std::process::Abort;
 use std::test::Fail;
-use wire_io::{Heard, Link, NextFault, ScriptEvent, ScriptLink, Took};
+use wire_io::{Heard, Link, ScriptEvent, ScriptLink, Took};
 
 /// A link of two connections that open, which fails at these calls.
 fn failing_link(alloc: Global, failing: &[u64]) -> Result<ScriptLink, AllocError> {
@@ -14,16 +18,28 @@ fn failing_link(alloc: Global, failing: &[u64]) -> Result<ScriptLink, AllocError
     Ok(link)
 }
 
+/// Each step of the link gives what it is to give.
+fn play(rt: &impl Abort, link: &mut ScriptLink, rows: &[Row]) {
+    let mut buf = [0u8; 3];
+    for (index, (step, want)) in rows.iter().enumerate() {
+        let found = ask(link, "127.0.0.1:389", &mut buf, *step);
+        assert_eq!(rt; found, Some(*want), "step {index}");
+    }
+}
+
+static FAILING: [Row; 4] = [
+    (Open(1), Failed),
+    (Next, Event(Heard::Opened(2))),
+    (Next, Failed),
+    (Next, Event(Heard::Opened(1))),
+];
+
 #[test]
 fn a_link_fails_at_the_calls_that_are_to_fail_and_takes_no_event_there(
     rt: HostRuntime,
 ) -> Result<(), Fail> {
     let mut link = failing_link(rt.alloc(), &[0, 2])?;
-    let mut buf = [0u8; 3];
-    assert_eq!(rt; link.open("127.0.0.1:389", 1), Err(NextFault::Failed));
-    assert_eq!(rt; link.next(&mut buf), Ok(Heard::Opened(2)));
-    assert_eq!(rt; link.next(&mut buf), Err(NextFault::Failed));
-    assert_eq!(rt; link.next(&mut buf), Ok(Heard::Opened(1)));
+    play(&rt, &mut link, &FAILING);
     Ok(())
 }
 
@@ -43,40 +59,54 @@ fn refusing_link(alloc: Global) -> Result<ScriptLink, AllocError> {
     Ok(link)
 }
 
+static REFUSING: [Row; 5] = [
+    (Write(2, b"ab"), Taken(Took::Later)),
+    (Write(2, b"ab"), Taken(Took::Took(2))),
+    (Write(1, b"c"), Taken(Took::Gone)),
+    (Write(2, b"d"), Taken(Took::Later)),
+    (Write(2, b"d"), Taken(Took::Took(1))),
+];
+
 #[test]
 fn a_link_takes_nothing_now_or_finds_a_connection_lost_at_the_calls_that_are_to(
     rt: HostRuntime,
 ) -> Result<(), Fail> {
     let mut link = refusing_link(rt.alloc())?;
-    assert_eq!(rt; link.write(2, b"ab"), Took::Later);
-    assert_eq!(rt; link.write(2, b"ab"), Took::Took(2));
-    assert_eq!(rt; link.write(1, b"c"), Took::Gone);
-    assert_eq!(rt; link.write(2, b"d"), Took::Later);
-    assert_eq!(rt; link.write(2, b"d"), Took::Took(1));
-    assert_eq!(rt; link.said_of(2), b"abd".as_slice());
-    assert_eq!(rt; link.said_of(1), b"".as_slice());
+    play(&rt, &mut link, &REFUSING);
+    assert_eq!(rt;
+        (link.said_of(2), link.said_of(1)),
+        (b"abd".as_slice(), b"".as_slice())
+    );
     Ok(())
 }
+
+// Behind an event, the connection 2 is on hold until it is released, and until it is hung up.
+static RELEASED: [Row; 7] = [
+    (Next, Event(Heard::Opened(2))),
+    (Next, Event(Heard::Opened(1))),
+    (Hold(2), Done),
+    (Next, Event(Heard::Ready(2))),
+    (Next, Event(Heard::Ready(2))),
+    (Release(2), Done),
+    (Next, Event(Heard::Ended(2))),
+];
+
+static HUNG_UP: [Row; 5] = [
+    (Next, Event(Heard::Opened(2))),
+    (Next, Event(Heard::Opened(1))),
+    (Hold(2), Done),
+    (HangUp(2), Done),
+    (Next, Event(Heard::Ended(2))),
+];
 
 #[test]
 fn a_connection_on_hold_is_ready_until_it_is_released_or_hung_up(
     rt: HostRuntime,
 ) -> Result<(), Fail> {
-    let mut buf = [0u8; 3];
-    let mut link = refusing_link(rt.alloc())?;
-    assert_eq!(rt; link.next(&mut buf), Ok(Heard::Opened(2)));
-    assert_eq!(rt; link.next(&mut buf), Ok(Heard::Opened(1)));
-    assert!(rt; link.hold(2).is_ok());
-    assert_eq!(rt; link.next(&mut buf), Ok(Heard::Ready(2)));
-    assert_eq!(rt; link.next(&mut buf), Ok(Heard::Ready(2)));
-    assert!(rt; link.release(2).is_ok());
-    assert_eq!(rt; link.next(&mut buf), Ok(Heard::Ended(2)));
-    let mut link = refusing_link(rt.alloc())?;
-    assert_eq!(rt; link.next(&mut buf), Ok(Heard::Opened(2)));
-    assert_eq!(rt; link.next(&mut buf), Ok(Heard::Opened(1)));
-    assert!(rt; link.hold(2).is_ok());
-    assert!(rt; link.hang_up(2).is_ok());
-    assert_eq!(rt; link.next(&mut buf), Ok(Heard::Ended(2)));
-    assert_eq!(rt; (link.hung_up(1), link.hung_up(2)), (false, true));
+    let mut released = refusing_link(rt.alloc())?;
+    play(&rt, &mut released, &RELEASED);
+    let mut hung_up = refusing_link(rt.alloc())?;
+    play(&rt, &mut hung_up, &HUNG_UP);
+    assert_eq!(rt; (hung_up.hung_up(1), hung_up.hung_up(2)), (false, true));
     Ok(())
 }

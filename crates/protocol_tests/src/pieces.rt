@@ -2,6 +2,7 @@
 
 use fair_pieces::{Cut, Kept, cut_at, is_wide};
 use std::alloc::{AllocError, Global};
+use std::process::Abort;
 use std::test::Fail;
 
 /// A search of "dc=x" and all below it for objectClass.
@@ -106,18 +107,23 @@ fn octets_are_cut_behind_the_first_wide_message(rt: HostRuntime) {
     }
 }
 
-/// What is given in turn of octets that are kept, as counts, into a buffer of 100 octets.
-fn counts(alloc: Global, kept: &mut Kept) -> Result<Vec<usize>, AllocError> {
-    let mut counts = Vec::new(alloc);
+// So many of the octets can be given at once, counted from the front of all that are kept.
+fn keeps(rt: &impl Abort, kept: &mut Kept, octets: &[u8], want: usize, what: &str) {
+    assert_eq!(rt; kept.keep(octets).ok(), Some(want), "{what}");
+}
+
+// These counts of the octets are given in turn into a buffer of 100, and then none.
+fn gives(rt: &impl Abort, kept: &mut Kept, counts: &[usize], what: &str) {
     let mut buf = [0u8; 100];
-    for _ in 0..8 {
-        let given = kept.give(&mut buf);
-        if given == 0 {
-            return Ok(counts);
-        }
-        counts.push(given)?;
+    for want in counts {
+        assert_eq!(rt; kept.give(&mut buf), *want, "{what}");
     }
-    Ok(counts)
+    assert_eq!(rt; kept.give(&mut buf), 0, "no more than {what}");
+}
+
+// So many octets are kept, and whether they wait for others.
+fn has(rt: &impl Abort, kept: &Kept, count: usize, waits: bool) {
+    assert_eq!(rt; (kept.octets().len(), kept.is_waiting()), (count, waits));
 }
 
 /// A search of the base alone, one of a whole tree, an unbind, one of a level and one of a whole tree.
@@ -134,18 +140,18 @@ fn stream(alloc: Global) -> Result<Vec<u8>, AllocError> {
 
 #[test]
 fn searches_of_many_entries_are_given_one_by_one(rt: HostRuntime) -> Result<(), Fail> {
-    let alloc = rt.alloc();
-    let octets = stream(alloc)?;
-    let mut kept = Kept::new(alloc);
-    assert_eq!(rt; kept.keep(&octets)?, 74, "the base alone and a whole tree");
-    assert!(rt; !kept.is_waiting());
-    assert_eq!(rt;
-        counts(alloc, &mut kept)?.as_slice(),
-        &[44, 37][..],
-        "the others"
+    let octets = stream(rt.alloc())?;
+    let mut kept = Kept::new(rt.alloc());
+    keeps(
+        &rt,
+        &mut kept,
+        &octets,
+        74,
+        "the base alone and a whole tree",
     );
-    assert_eq!(rt; kept.octets().len(), 0);
-    assert!(rt; kept.is_waiting());
+    has(&rt, &kept, 81, false);
+    gives(&rt, &mut kept, &[44, 37], "the others");
+    has(&rt, &kept, 0, true);
     Ok(())
 }
 
@@ -161,39 +167,34 @@ fn rest_of(octets: &[u8]) -> &[u8] {
 
 #[test]
 fn a_stream_that_begins_in_mid_message_is_cut_too(rt: HostRuntime) -> Result<(), Fail> {
-    let alloc = rt.alloc();
-    let octets = stream(alloc)?;
-    let mut kept = Kept::new(alloc);
-    assert_eq!(rt; kept.keep(front_of(&octets))?, 37, "the base alone");
-    assert_eq!(rt;
-        counts(alloc, &mut kept)?.as_slice(),
-        &[13][..],
-        "13 of a whole tree"
-    );
-    assert_eq!(rt; kept.keep(rest_of(&octets))?, 24, "the rest of it");
-    assert_eq!(rt;
-        counts(alloc, &mut kept)?.as_slice(),
-        &[44, 37][..],
-        "the others"
-    );
+    let octets = stream(rt.alloc())?;
+    let mut kept = Kept::new(rt.alloc());
+    keeps(&rt, &mut kept, front_of(&octets), 37, "the base alone");
+    gives(&rt, &mut kept, &[13], "13 of a whole tree");
+    keeps(&rt, &mut kept, rest_of(&octets), 24, "the rest of it");
+    gives(&rt, &mut kept, &[44, 37], "the others");
     Ok(())
 }
 
-#[test]
-fn octet_by_octet_only_the_first_waits(rt: HostRuntime) -> Result<(), Fail> {
-    let alloc = rt.alloc();
-    let mut kept = Kept::new(alloc);
-    assert_eq!(rt; kept.keep(&TREE[..1])?, 0, "a tag alone");
-    assert!(rt; kept.is_waiting());
+// One octet of the tag of a message is kept: none can be given, and it can be copied.
+fn has_tag(rt: &impl Abort, kept: &mut Kept) {
     let mut buf = [0u8; 4];
-    assert_eq!(rt; kept.give(&mut buf), 0);
-    assert_eq!(rt; kept.copy(&mut buf), 1);
-    assert_eq!(rt; kept.keep(&TREE[..2])?, 2, "its header");
+    let given = kept.give(&mut buf);
+    let copied = kept.copy(&mut buf);
+    assert_eq!(rt; (given, copied), (0, 1));
+}
+
+#[test]
+fn octet_by_octet_only_the_first_waits(rt: HostRuntime) {
+    let mut kept = Kept::new(rt.alloc());
+    keeps(&rt, &mut kept, &TREE[..1], 0, "a tag alone");
+    has(&rt, &kept, 1, true);
+    has_tag(&rt, &mut kept);
+    keeps(&rt, &mut kept, &TREE[..2], 2, "its header");
     for index in 2..37 {
-        assert_eq!(rt; kept.keep(&TREE[index..index + 1])?, 1, "{index}");
+        keeps(&rt, &mut kept, &TREE[index..index + 1], 1, "an octet more");
     }
-    assert_eq!(rt; kept.keep(&TREE[..1])?, 0, "the tag of another");
+    keeps(&rt, &mut kept, &TREE[..1], 0, "the tag of another");
     kept.forget();
-    assert_eq!(rt; kept.octets().len(), 0);
-    Ok(())
+    has(&rt, &kept, 0, true);
 }

@@ -1,335 +1,314 @@
 //! The link of the system's sockets, over loopback.
 
-ghost use Rattle.std.specs.Prelude.{◌<◌, length};
-
-use mio_link::MioLink;
-use std::io::{Read, Write};
-use std::net::{Ipv4Addr, Shutdown, SocketAddr, TcpListener, TcpStream};
+use crate::steps::Answer::*;
+use crate::steps::Row;
+use crate::steps::Step::*;
+use crate::talk::{Talk, new_talk, play};
+use std::process::Abort;
 use std::test::Fail;
-use std::{fs, io};
-use wire_io::{Heard, Link, NextFault, NoMemory, Took};
+use wire_io::{Heard, Took};
 
-/// An address of the loopback at which nobody listens.
-fn free_address(rt: &HostRuntime) -> io::Result<SocketAddr> {
-    let listener = TcpListener::bind(rt, SocketAddr::from((Ipv4Addr::LOCALHOST, 0)))?;
-    listener.local_addr()
-}
-
-/// The next event that is not Idle.
-fn next<L: Link>(link: &mut L, buf: &mut [u8]) -> Result<Heard, NextFault>
-    requires { 0 < length buf.old }
-{
-    for _ in 0..1000 {
-        match link.next(buf)? {
-            Heard::Idle => {}
-            heard => return Ok(heard),
-        }
-    }
-    Ok(Heard::Idle)
-}
+static SERVED: [Row; 27] = [
+    // not open, at no address, open, and open already
+    (Next, Failed),
+    (OpenAt("here"), Failed),
+    (Open(2), Done),
+    (Open(2), Failed),
+    (Connect, Done),
+    (Hear, Event(Heard::Opened(1))),
+    (Send(0, b"abc"), Done),
+    (Hear, Event(Heard::Bytes(1, 3))),
+    (Buffer(b"abc\0"), Is(true)),
+    (Write(1, b"xyz"), Taken(Took::Took(3))),
+    (Read(0), Count(3)),
+    (Buffer(b"xyz\0"), Is(true)),
+    (Hold(1), Done),
+    (Hear, Event(Heard::Ready(1))),
+    (Release(1), Done),
+    (Shut(0), Done),
+    (Hear, Event(Heard::Ended(1))),
+    (HangUp(1), Done),
+    (Write(1, b"z"), Taken(Took::Gone)),
+    // a peer that leaves what it was sent unread resets the connection
+    (Connect, Done),
+    (Hear, Event(Heard::Opened(2))),
+    (Write(2, b"xyz"), Taken(Took::Took(3))),
+    (Leave, Done),
+    (Hear, Event(Heard::Ended(2))),
+    (Write(2, b"xyz"), Taken(Took::Gone)),
+    (HangUp(2), Done),
+    // two sessions ended
+    (Next, Event(Heard::Stop)),
+];
 
 #[test]
 fn connections_over_loopback_are_served_to_their_end(rt: HostRuntime) -> Result<(), Fail> {
-    let address = free_address(&rt)?;
-    let name = format!(in rt.alloc(); "{address}")?;
-    let mut link = MioLink::new(rt.clone()?, rt.alloc())?;
-    let mut buf = [0u8; 4];
-    assert_eq!(rt; link.next(&mut buf), Err(NextFault::Failed), "not open");
-    assert_eq!(rt; link.open("here", 2), Err(NextFault::Failed), "no address");
-    assert_eq!(rt; link.open(&name, 2), Ok(()));
-    assert_eq!(rt; link.open(&name, 2), Err(NextFault::Failed), "open already");
-
-    let mut peer = TcpStream::connect(&rt, address)?;
-    assert_eq!(rt; next(&mut link, &mut buf), Ok(Heard::Opened(1)));
-    peer.write_all(b"abc")?;
-    assert_eq!(rt; next(&mut link, &mut buf), Ok(Heard::Bytes(1, 3)));
-    assert_eq!(rt; &buf, b"abc\0");
-    assert_eq!(rt; link.write(1, b"xyz"), Took::Took(3));
-    assert_eq!(rt; peer.read(&mut buf)?, 3);
-    assert_eq!(rt; &buf, b"xyz\0");
-    assert!(rt; link.hold(1).is_ok());
-    assert_eq!(rt; next(&mut link, &mut buf), Ok(Heard::Ready(1)));
-    assert!(rt; link.release(1).is_ok());
-    peer.shutdown(Shutdown::Write)?;
-    assert_eq!(rt; next(&mut link, &mut buf), Ok(Heard::Ended(1)));
-    assert!(rt; link.hang_up(1).is_ok());
-    assert_eq!(rt; link.write(1, b"z"), Took::Gone, "hung up");
-
-    // a peer that leaves what it was sent unread resets the connection
-    let other = TcpStream::connect(&rt, address)?;
-    assert_eq!(rt; next(&mut link, &mut buf), Ok(Heard::Opened(2)));
-    assert_eq!(rt; link.write(2, b"xyz"), Took::Took(3));
-    drop(other);
-    assert_eq!(rt; next(&mut link, &mut buf), Ok(Heard::Ended(2)));
-    assert_eq!(rt; link.write(2, b"xyz"), Took::Gone, "reset");
-    assert!(rt; link.hang_up(2).is_ok());
-    assert_eq!(rt; link.next(&mut buf), Ok(Heard::Stop), "two sessions ended");
+    let mut talk = new_talk(&rt, 4)?;
+    play(&rt, &mut talk, &SERVED);
     Ok(())
 }
 
+static SHORT: [Row; 26] = [
+    (Open(0), Done),
+    (Connect, Done),
+    (Hear, Event(Heard::Opened(1))),
+    (Connect, Done),
+    (Hear, Event(Heard::Opened(2))),
+    // more octets than the buffer has room for
+    (Send(0, b"abcde"), Done),
+    (Hear, Event(Heard::Bytes(1, 4))),
+    (Hear, Event(Heard::Bytes(1, 1))),
+    (Send(1, b"x"), Done),
+    (Hear, Event(Heard::Bytes(2, 1))),
+    // octets that come on hold are heard after the release
+    (Hold(1), Done),
+    (Send(0, b"fg"), Done),
+    (Hear, Event(Heard::Ready(1))),
+    (Release(1), Done),
+    (Hear, Event(Heard::Bytes(1, 2))),
+    // the end behind the last octet
+    (Send(0, b"h"), Done),
+    (Shut(0), Done),
+    (Hear, Event(Heard::Bytes(1, 1))),
+    (Hear, Event(Heard::Ended(1))),
+    (HangUp(1), Done),
+    // another connection at the place of one that was hung up
+    (Connect, Done),
+    (Hear, Event(Heard::Opened(3))),
+    (Send(2, b"z"), Done),
+    (Hear, Event(Heard::Bytes(3, 1))),
+    (Shut(1), Done),
+    (Hear, Event(Heard::Ended(2))),
+];
+
 #[test]
 fn what_comes_behind_a_short_read_is_heard(rt: HostRuntime) -> Result<(), Fail> {
-    let address = free_address(&rt)?;
-    let name = format!(in rt.alloc(); "{address}")?;
-    let mut link = MioLink::new(rt.clone()?, rt.alloc())?;
-    let mut buf = [0u8; 4];
-    assert_eq!(rt; link.open(&name, 0), Ok(()));
-    let mut peer = TcpStream::connect(&rt, address)?;
-    assert_eq!(rt; next(&mut link, &mut buf), Ok(Heard::Opened(1)));
-    let mut other = TcpStream::connect(&rt, address)?;
-    assert_eq!(rt; next(&mut link, &mut buf), Ok(Heard::Opened(2)));
-
-    // more octets than the buffer has room for
-    peer.write_all(b"abcde")?;
-    assert_eq!(rt; next(&mut link, &mut buf), Ok(Heard::Bytes(1, 4)));
-    assert_eq!(rt; next(&mut link, &mut buf), Ok(Heard::Bytes(1, 1)));
-    other.write_all(b"x")?;
-    assert_eq!(rt; next(&mut link, &mut buf), Ok(Heard::Bytes(2, 1)));
-
-    // octets that come on hold are heard after the release
-    assert!(rt; link.hold(1).is_ok());
-    peer.write_all(b"fg")?;
-    assert_eq!(rt; next(&mut link, &mut buf), Ok(Heard::Ready(1)));
-    assert!(rt; link.release(1).is_ok());
-    assert_eq!(rt; next(&mut link, &mut buf), Ok(Heard::Bytes(1, 2)));
-
-    // the end behind the last octet
-    peer.write_all(b"h")?;
-    peer.shutdown(Shutdown::Write)?;
-    assert_eq!(rt; next(&mut link, &mut buf), Ok(Heard::Bytes(1, 1)));
-    assert_eq!(rt; next(&mut link, &mut buf), Ok(Heard::Ended(1)));
-    assert!(rt; link.hang_up(1).is_ok());
-
-    // another connection at the place of one that was hung up
-    let mut third = TcpStream::connect(&rt, address)?;
-    assert_eq!(rt; next(&mut link, &mut buf), Ok(Heard::Opened(3)));
-    third.write_all(b"z")?;
-    assert_eq!(rt; next(&mut link, &mut buf), Ok(Heard::Bytes(3, 1)));
-    other.shutdown(Shutdown::Write)?;
-    assert_eq!(rt; next(&mut link, &mut buf), Ok(Heard::Ended(2)));
+    let mut talk = new_talk(&rt, 4)?;
+    play(&rt, &mut talk, &SHORT);
     Ok(())
 }
 
 /// A search of the whole tree below "dc=x" for objectClass (RFC 4511 4.5.1).
-const TREE: [u8; 37] = [
-    0x30, 0x23, 2, 1, 1, 0x63, 0x1e, 4, 4, 0x64, 0x63, 0x3d, 0x78, 0x0a, 1, 2, 0x0a, 1, 0, 2, 1, 0,
-    2, 1, 0, 1, 1, 0, 0x87, 5, 0x63, 0x6c, 0x61, 0x73, 0x73, 0x30, 0,
+const TREE: &[u8] =
+    b"\x30\x23\x02\x01\x01\x63\x1e\x04\x04dc=x\x0a\x01\x02\x0a\x01\x00\x02\x01\x00\x02\x01\x00\x01\x01\x00\x87\x05class\x30\x00";
+
+/// It three times, and the front of a header.
+const THREE: &[u8] =
+    b"\x30\x23\x02\x01\x01\x63\x1e\x04\x04dc=x\x0a\x01\x02\x0a\x01\x00\x02\x01\x00\x02\x01\x00\x01\x01\x00\x87\x05class\x30\x00\
+    \x30\x23\x02\x01\x01\x63\x1e\x04\x04dc=x\x0a\x01\x02\x0a\x01\x00\x02\x01\x00\x02\x01\x00\x01\x01\x00\x87\x05class\x30\x00\
+    \x30\x23\x02\x01\x01\x63\x1e\x04\x04dc=x\x0a\x01\x02\x0a\x01\x00\x02\x01\x00\x02\x01\x00\x01\x01\x00\x87\x05class\x30\x00\
+    \x30";
+
+static SEARCHES: [Row; 21] = [
+    (Open(0), Done),
+    (Connect, Done),
+    (Hear, Event(Heard::Opened(1))),
+    (Connect, Done),
+    (Hear, Event(Heard::Opened(2))),
+    (Send(0, THREE), Done),
+    (Send(1, TREE), Done),
+    (Hear, Event(Heard::Bytes(1, 37))),
+    (Hear, Event(Heard::Bytes(2, 37))),
+    (Hear, Event(Heard::Bytes(1, 37))),
+    // on hold nothing is heard of it
+    (Hold(1), Done),
+    (Hear, Event(Heard::Ready(1))),
+    (Release(1), Done),
+    (Hear, Event(Heard::Bytes(1, 37))),
+    (Buffer(TREE), Is(true)),
+    // the front of a header comes with what follows it, and before the end
+    (Send(0, b"\x05\x02"), Done),
+    (Hear, Event(Heard::Bytes(1, 3))),
+    (Send(1, b"\x30"), Done),
+    (Shut(1), Done),
+    (Hear, Event(Heard::Bytes(2, 1))),
+    (Hear, Event(Heard::Ended(2))),
 ];
-
-// Whether the octets begin with that search.
-fn begins_with_tree(octets: &[u8]) -> bool {
-    octets.starts_with(&TREE)
-}
-
-// Sends from the first of the peers.
-fn write_first(peers: &mut [TcpStream], octets: &[u8]) -> io::Result<()> {
-    match peers.first_mut() {
-        Some(first) => first.write_all(octets),
-        None => Ok(()),
-    }
-}
 
 #[test]
 fn searches_sent_at_once_are_heard_in_turn_with_others(rt: HostRuntime) -> Result<(), Fail> {
-    let address = free_address(&rt)?;
-    let name = format!(in rt.alloc(); "{address}")?;
-    let mut link = MioLink::new(rt.clone()?, rt.alloc())?;
-    let mut buf = [0u8; 200];
-    assert_eq!(rt; link.open(&name, 0), Ok(()));
-    let mut peer = TcpStream::connect(&rt, address)?;
-    assert_eq!(rt; next(&mut link, &mut buf), Ok(Heard::Opened(1)));
-    let mut other = TcpStream::connect(&rt, address)?;
-    assert_eq!(rt; next(&mut link, &mut buf), Ok(Heard::Opened(2)));
-
-    let mut octets = Vec::new(rt.alloc());
-    for _ in 0..3 {
-        octets.extend_from_slice(&TREE)?;
-    }
-    octets.push(0x30)?;
-    peer.write_all(&octets)?;
-    other.write_all(&TREE)?;
-    assert_eq!(rt; next(&mut link, &mut buf), Ok(Heard::Bytes(1, 37)));
-    assert_eq!(rt; next(&mut link, &mut buf), Ok(Heard::Bytes(2, 37)));
-    assert_eq!(rt; next(&mut link, &mut buf), Ok(Heard::Bytes(1, 37)));
-    // on hold nothing is heard of it
-    assert!(rt; link.hold(1).is_ok());
-    assert_eq!(rt; next(&mut link, &mut buf), Ok(Heard::Ready(1)));
-    assert!(rt; link.release(1).is_ok());
-    assert_eq!(rt; next(&mut link, &mut buf), Ok(Heard::Bytes(1, 37)));
-    assert!(rt; begins_with_tree(&buf));
-
-    // the front of a header comes with what follows it, and before the end
-    peer.write_all(&[5, 2])?;
-    assert_eq!(rt; next(&mut link, &mut buf), Ok(Heard::Bytes(1, 3)));
-    other.write_all(&[0x30])?;
-    other.shutdown(Shutdown::Write)?;
-    assert_eq!(rt; next(&mut link, &mut buf), Ok(Heard::Bytes(2, 1)));
-    assert_eq!(rt; next(&mut link, &mut buf), Ok(Heard::Ended(2)));
+    let mut talk = new_talk(&rt, 200)?;
+    play(&rt, &mut talk, &SEARCHES);
     Ok(())
 }
+
+static SILENT: [Row; 11] = [
+    // the first spoke last, the second is on hold
+    (Send(0, b"abc"), Done),
+    (Hear, Event(Heard::Bytes(1, 3))),
+    (Hold(2), Done),
+    (Hear, Event(Heard::Ready(2))),
+    (Connect, Done),
+    (Send(256, b"xyz"), Done),
+    // the second may take octets all the time, until the system is asked for reports again
+    (HearPast(Heard::Ready(2)), Event(Heard::Ended(3))),
+    (Release(2), Done),
+    (HangUp(3), Done),
+    (Hear, Event(Heard::Opened(257))),
+    (Hear, Event(Heard::Bytes(257, 3))),
+];
 
 #[test]
 fn the_peer_that_was_silent_longest_makes_room_for_another(rt: HostRuntime) -> Result<(), Fail> {
-    let address = free_address(&rt)?;
-    let name = format!(in rt.alloc(); "{address}")?;
-    let mut link = MioLink::new(rt.clone()?, rt.alloc())?;
-    let mut buf = [0u8; 4];
-    assert_eq!(rt; link.open(&name, 0), Ok(()));
-    let mut peers = Vec::new(rt.alloc());
+    let mut talk = new_talk(&rt, 4)?;
+    play(&rt, &mut talk, &[(Open(0), Done)]);
     for number in 1..257u32 {
-        peers.push(TcpStream::connect(&rt, address)?)?;
-        assert_eq!(rt; next(&mut link, &mut buf), Ok(Heard::Opened(number)));
+        play(
+            &rt,
+            &mut talk,
+            &[(Connect, Done), (Hear, Event(Heard::Opened(number)))],
+        );
     }
-    // the first spoke last, the second is on hold
-    write_first(peers.as_mut_slice(), b"abc")?;
-    assert_eq!(rt; next(&mut link, &mut buf), Ok(Heard::Bytes(1, 3)));
-    assert!(rt; link.hold(2).is_ok());
-    assert_eq!(rt; next(&mut link, &mut buf), Ok(Heard::Ready(2)));
-
-    let mut other = TcpStream::connect(&rt, address)?;
-    other.write_all(b"xyz")?;
-    let mut heard = next(&mut link, &mut buf);
-    // the second may take octets all the time, until the system is asked for reports again
-    for _ in 0..100_000 {
-        if heard == Ok(Heard::Ready(2)) {
-            heard = next(&mut link, &mut buf);
-        }
-    }
-    assert_eq!(rt; heard, Ok(Heard::Ended(3)));
-    assert!(rt; link.release(2).is_ok());
-    assert!(rt; link.hang_up(3).is_ok());
-    assert_eq!(rt; next(&mut link, &mut buf), Ok(Heard::Opened(257)));
-    assert_eq!(rt; next(&mut link, &mut buf), Ok(Heard::Bytes(257, 3)));
+    play(&rt, &mut talk, &SILENT);
     Ok(())
 }
+
+static IDLE: [Row; 8] = [
+    (EndIdleAfter(1), Done),
+    (Open(0), Done),
+    (Connect, Done),
+    (Hear, Event(Heard::Opened(1))),
+    (Send(0, b"abc"), Done),
+    (Hear, Event(Heard::Bytes(1, 3))),
+    (Hear, Event(Heard::Ended(1))),
+    (HangUp(1), Done),
+];
 
 #[test]
 fn a_peer_that_is_idle_is_ended(rt: HostRuntime) -> Result<(), Fail> {
-    let address = free_address(&rt)?;
-    let name = format!(in rt.alloc(); "{address}")?;
-    let mut link = MioLink::new(rt.clone()?, rt.alloc())?;
-    let mut buf = [0u8; 4];
-    link.end_idle_after(1);
-    assert_eq!(rt; link.open(&name, 0), Ok(()));
-    let mut peer = TcpStream::connect(&rt, address)?;
-    assert_eq!(rt; next(&mut link, &mut buf), Ok(Heard::Opened(1)));
-    peer.write_all(b"abc")?;
-    assert_eq!(rt; next(&mut link, &mut buf), Ok(Heard::Bytes(1, 3)));
-    assert_eq!(rt; next(&mut link, &mut buf), Ok(Heard::Ended(1)));
-    assert!(rt; link.hang_up(1).is_ok());
+    let mut talk = new_talk(&rt, 4)?;
+    play(&rt, &mut talk, &IDLE);
     Ok(())
 }
 
-/// A link of which a store of this name is open, with the connections 1 and 2 of two peers.
-fn link_of_two(
-    rt: &HostRuntime,
-    store: &str,
-    sessions: u64,
-) -> Result<(MioLink<HostRuntime>, TcpStream, TcpStream), Fail> {
-    let _ = fs::remove_file(rt, store);
-    let address = free_address(rt)?;
-    let name = format!(in rt.alloc(); "{address}")?;
-    let mut link = MioLink::new(rt.clone()?, rt.alloc())?;
-    let mut buf = [0u8; 4];
-    link.open_store(store)?;
-    link.open(&name, sessions)?;
-    let first = TcpStream::connect(rt, address)?;
-    next(&mut link, &mut buf)?;
-    let second = TcpStream::connect(rt, address)?;
-    next(&mut link, &mut buf)?;
-    Ok((link, first, second))
+/// The link opens a store of this name, and the connections 1 and 2 of two peers.
+fn open_two(rt: &impl Abort, talk: &mut Talk, store: &'static str, sessions: u64) {
+    let rows = [
+        (Remove(store), Done),
+        (OpenStore(store), Done),
+        (Open(sessions), Done),
+        (Connect, Done),
+        (Hear, Event(Heard::Opened(1))),
+        (Connect, Done),
+        (Hear, Event(Heard::Opened(2))),
+    ];
+    play(rt, talk, &rows);
 }
 
-/// What is taken of an octet for the connection, which is then put on hold.
-fn write_and_hold<L: Link>(link: &mut L, conn: u32) -> Result<Took, NoMemory> {
-    let took = link.write(conn, b"x");
-    link.hold(conn)?;
-    Ok(took)
-}
-
-/// What is taken of an octet for the connection, which is then released.
-fn write_and_release<L: Link>(link: &mut L, conn: u32) -> Result<Took, NoMemory> {
-    let took = link.write(conn, b"x");
-    link.release(conn)?;
-    Ok(took)
-}
+static GROUP: [Row; 23] = [
+    (Send(0, b"abc"), Done),
+    (Hear, Event(Heard::Bytes(1, 3))),
+    (Store(b"abc\n"), Done),
+    (Write(1, b"x"), Taken(Took::Later)),
+    (Hold(1), Done),
+    // put off
+    (Sync, Done),
+    // another is heard before the disk is waited for
+    (Send(1, b"de"), Done),
+    (Hear, Event(Heard::Bytes(2, 2))),
+    (Write(2, b"x"), Taken(Took::Later)),
+    (Hold(2), Done),
+    // put off again
+    (Sync, Done),
+    // nobody is told that it may be written to, and nothing is waited for
+    (Next, Event(Heard::Idle)),
+    // before the disk has it
+    (Write(2, b"x"), Taken(Took::Later)),
+    // waits for the disk
+    (Sync, Done),
+    (Next, Event(Heard::Ready(1))),
+    (Write(1, b"x"), Taken(Took::Took(1))),
+    (Release(1), Done),
+    (Next, Event(Heard::Ready(2))),
+    (Write(2, b"x"), Taken(Took::Took(1))),
+    (Release(2), Done),
+    (Read(0), Count(1)),
+    (Read(1), Count(1)),
+    (Text("group", "abc\n"), Is(true)),
+];
 
 #[test]
 fn no_octets_are_taken_before_the_disk_has_what_was_stored(rt: HostRuntime) -> Result<(), Fail> {
-    let (mut link, mut first, mut second) = link_of_two(&rt, "group", 0)?;
-    let mut buf = [0u8; 4];
-    first.write_all(b"abc")?;
-    assert_eq!(rt; next(&mut link, &mut buf), Ok(Heard::Bytes(1, 3)));
-    assert_eq!(rt; link.store(b"abc\n"), Ok(()));
-    assert_eq!(rt; write_and_hold(&mut link, 1)?, Took::Later);
-    assert_eq!(rt; link.sync_store(), Ok(()), "put off");
-
-    // another is heard before the disk is waited for
-    second.write_all(b"de")?;
-    assert_eq!(rt; next(&mut link, &mut buf), Ok(Heard::Bytes(2, 2)));
-    assert_eq!(rt; write_and_hold(&mut link, 2)?, Took::Later);
-    assert_eq!(rt; link.sync_store(), Ok(()), "put off again");
-    // nobody is told that it may be written to, and nothing is waited for
-    assert_eq!(rt; link.next(&mut buf), Ok(Heard::Idle));
-    assert_eq!(rt; link.write(2, b"x"), Took::Later, "before the disk has it");
-    assert_eq!(rt; link.sync_store(), Ok(()), "waits for the disk");
-
-    assert_eq!(rt; link.next(&mut buf), Ok(Heard::Ready(1)));
-    assert_eq!(rt; write_and_release(&mut link, 1)?, Took::Took(1));
-    assert_eq!(rt; link.next(&mut buf), Ok(Heard::Ready(2)));
-    assert_eq!(rt; write_and_release(&mut link, 2)?, Took::Took(1));
-    assert_eq!(rt; (first.read(&mut buf)?, second.read(&mut buf)?), (1, 1));
-    assert_eq!(rt; fs::read_to_string(&rt, "group")?.as_str(), "abc\n");
+    let mut talk = new_talk(&rt, 4)?;
+    open_two(&rt, &mut talk, "group", 0);
+    play(&rt, &mut talk, &GROUP);
     Ok(())
 }
+
+static HUNG_UP: [Row; 11] = [
+    (Store(b"abc\n"), Done),
+    (Write(1, b"x"), Taken(Took::Later)),
+    (Hold(1), Done),
+    (HangUp(1), Done),
+    // neither does another that is opened at its place
+    (Connect, Done),
+    (Hear, Event(Heard::Opened(3))),
+    // put off
+    (Sync, Done),
+    (Next, Event(Heard::Idle)),
+    // waits for the disk
+    (Sync, Done),
+    (Send(1, b"g"), Done),
+    (Hear, Event(Heard::Bytes(2, 1))),
+];
 
 #[test]
 fn a_connection_that_is_hung_up_waits_for_the_disk_no_more(rt: HostRuntime) -> Result<(), Fail> {
-    let (mut link, _first, mut second) = link_of_two(&rt, "hung_up", 0)?;
-    let mut buf = [0u8; 4];
-    assert_eq!(rt; link.store(b"abc\n"), Ok(()));
-    assert_eq!(rt; write_and_hold(&mut link, 1)?, Took::Later);
-    assert!(rt; link.hang_up(1).is_ok());
-    // neither does another that is opened at its place
-    let address = second.peer_addr()?;
-    let _third = TcpStream::connect(&rt, address)?;
-    assert_eq!(rt; next(&mut link, &mut buf), Ok(Heard::Opened(3)));
-    assert_eq!(rt; link.sync_store(), Ok(()), "put off");
-    assert_eq!(rt; link.next(&mut buf), Ok(Heard::Idle));
-    assert_eq!(rt; link.sync_store(), Ok(()), "waits for the disk");
-    second.write_all(b"g")?;
-    assert_eq!(rt; next(&mut link, &mut buf), Ok(Heard::Bytes(2, 1)));
+    let mut talk = new_talk(&rt, 4)?;
+    open_two(&rt, &mut talk, "hung_up", 0);
+    play(&rt, &mut talk, &HUNG_UP);
     Ok(())
 }
+
+// The second may take octets all the time.
+static LATE: [Row; 4] = [
+    (Hold(2), Done),
+    (Store(b"abc\n"), Done),
+    (Write(1, b"x"), Taken(Took::Later)),
+    (Hold(1), Done),
+];
+
+static PUT_OFF: [Row; 3] = [
+    (Sync, Done),
+    (Next, Event(Heard::Ready(2))),
+    (Write(1, b"x"), Taken(Took::Later)),
+];
+
+static WAITED: [Row; 4] = [
+    (Sync, Done),
+    (Next, Event(Heard::Ready(1))),
+    (Write(1, b"x"), Taken(Took::Took(1))),
+    (Release(1), Done),
+];
 
 #[test]
 fn the_disk_is_waited_for_after_at_most_256_events(rt: HostRuntime) -> Result<(), Fail> {
-    let (mut link, _first, _second) = link_of_two(&rt, "late", 0)?;
-    let mut buf = [0u8; 4];
-    // the second may take octets all the time
-    assert!(rt; link.hold(2).is_ok());
-    assert_eq!(rt; link.store(b"abc\n"), Ok(()));
-    assert_eq!(rt; write_and_hold(&mut link, 1)?, Took::Later);
-    for event in 0..256 {
-        assert_eq!(rt; link.sync_store(), Ok(()));
-        assert_eq!(rt; link.next(&mut buf), Ok(Heard::Ready(2)), "event {event}");
-        assert_eq!(rt; link.write(1, b"x"), Took::Later, "event {event}");
+    let mut talk = new_talk(&rt, 4)?;
+    open_two(&rt, &mut talk, "late", 0);
+    play(&rt, &mut talk, &LATE);
+    for _event in 0..256 {
+        play(&rt, &mut talk, &PUT_OFF);
     }
-    assert_eq!(rt; link.sync_store(), Ok(()));
-    assert_eq!(rt; link.next(&mut buf), Ok(Heard::Ready(1)), "first");
-    assert_eq!(rt; write_and_release(&mut link, 1)?, Took::Took(1));
+    play(&rt, &mut talk, &WAITED);
     Ok(())
 }
 
+static END: [Row; 8] = [
+    (Store(b"abc\n"), Done),
+    (Write(1, b"x"), Taken(Took::Later)),
+    (Hold(1), Done),
+    (HangUp(2), Done),
+    // one session ended
+    (Sync, Done),
+    (Write(1, b"x"), Taken(Took::Took(1))),
+    (Release(1), Done),
+    (Next, Event(Heard::Stop)),
+];
+
 #[test]
 fn the_disk_is_waited_for_before_the_end(rt: HostRuntime) -> Result<(), Fail> {
-    let (mut link, _first, _second) = link_of_two(&rt, "end", 1)?;
-    let mut buf = [0u8; 4];
-    assert_eq!(rt; link.store(b"abc\n"), Ok(()));
-    assert_eq!(rt; write_and_hold(&mut link, 1)?, Took::Later);
-    assert!(rt; link.hang_up(2).is_ok());
-    assert_eq!(rt; link.sync_store(), Ok(()), "one session ended");
-    assert_eq!(rt; write_and_release(&mut link, 1)?, Took::Took(1));
-    assert_eq!(rt; link.next(&mut buf), Ok(Heard::Stop));
+    let mut talk = new_talk(&rt, 4)?;
+    open_two(&rt, &mut talk, "end", 1);
+    play(&rt, &mut talk, &END);
     Ok(())
 }
