@@ -1,5 +1,4 @@
-//! The laws of changes: a good tree stays good, a refused change leaves the entries, and a change that nothing refuses is
-//! done.
+//! The laws of changes: a good tree stays good, and exactly a change that nothing refuses is made.
 #![tactic(auto)]
 
 pub mod laws;

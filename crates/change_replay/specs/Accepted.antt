@@ -1,10 +1,10 @@
 -- Changes that a directory accepted: each by the requester who asked for it, over the entries that those before it left.
-use Rattle.std.specs.Prelude.{◌≡◌, ℕ, List, [], ◌∷◌, map, None}
+use Rattle.std.specs.Prelude.{◌≡◌, ℕ, List, [], ◌∷◌, map}
 use Rattle.std.specs.List.{AllByRecursion}
 use Rattle.dir_tree.specs.Entry.{EntryInformation}
 use Rattle.acdf_filters.specs.declared.asking.Requester.{Requester}
 use Rattle.op_add_delete.specs.read_model.Views.{result_of}
-use Rattle.op_add_delete.specs.adding.Updates.{Changed, refused, deleted, added}
+use Rattle.op_add_delete.specs.adding.Updates.{Changed, Refused, Made, left_by, deleted, added}
 use Rattle.change_laws.specs.op_modify.Modifying.{modified}
 use Rattle.change_laws.specs.op_modify.Renames.{renamed}
 use Rattle.change_laws.specs.op_modify.ldap_msg.declared.operations.ResultCode.TheVariants as code
@@ -13,16 +13,16 @@ use Rattle.change_laws.specs.op_modify.ldap_msg.declared.kinds.Request.TheVarian
 
 -- what a request comes to for a requester; one that changes nothing is none that may be accepted
 abbrev pub outcome : List EntryInformation → Requester → Request → Changed
-outcome entries who (request.Bind bind) = refused entries (result_of code.ProtocolError)
-outcome entries who request.Unbind = refused entries (result_of code.ProtocolError)
-outcome entries who (request.Search search) = refused entries (result_of code.ProtocolError)
+outcome entries who (request.Bind bind) = Refused (result_of code.ProtocolError)
+outcome entries who request.Unbind = Refused (result_of code.ProtocolError)
+outcome entries who (request.Search search) = Refused (result_of code.ProtocolError)
 outcome entries who (request.Modify modify) = modified entries who modify
 outcome entries who (request.Add add) = added entries who add
 outcome entries who (request.Delete delete) = deleted entries who delete
 outcome entries who (request.Rename rename) = renamed entries who rename
-outcome entries who (request.Compare compare) = refused entries (result_of code.ProtocolError)
-outcome entries who (request.Abandon id) = refused entries (result_of code.ProtocolError)
-outcome entries who (request.Extended name value) = refused entries (result_of code.ProtocolError)
+outcome entries who (request.Compare compare) = Refused (result_of code.ProtocolError)
+outcome entries who (request.Abandon id) = Refused (result_of code.ProtocolError)
+outcome entries who (request.Extended name value) = Refused (result_of code.ProtocolError)
 
 -- a request, and who asked
 pub record AcceptedChange : Type 0 where
@@ -35,18 +35,18 @@ requests_of changes = map (λ change. change.request) changes
 
 -- what a change leaves
 abbrev pub after : List EntryInformation → AcceptedChange → List EntryInformation
-after entries change = (outcome entries change.who change.request).entries
+after entries change = left_by entries (outcome entries change.who change.request)
 
 -- what changes leave, in their order
 unfoldable pub left_after : List EntryInformation → List AcceptedChange → List EntryInformation
 left_after entries [] = entries
 left_after entries (change ∷ rest) = left_after (after entries change) rest
 
--- nothing refuses the change
+-- the change is made: it leaves what is after it
 pub record IsAccepted (entries : List EntryInformation) (change : AcceptedChange) : Type 0 where
-  pub accepted : (outcome entries change.who change.request).refusal ≡ None
+  pub accepted : outcome entries change.who change.request ≡ Made (after entries change)
 
--- nothing refuses one of the changes, over what those before it left
+-- each of the changes is made, over what those before it left
 abbrev pub AreAccepted : List EntryInformation → List AcceptedChange → Type 0
 AreAccepted entries [] = Unit {0}
 AreAccepted entries (change ∷ rest) = IsAccepted entries change × AreAccepted (after entries change) rest

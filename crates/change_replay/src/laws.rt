@@ -1,9 +1,9 @@
 //! The laws of replays: each function computes nothing, and what it ensures is a law.
 
-ghost use Rattle.std.specs.Prelude.{◌≡◌, List, None, Ok};
+ghost use Rattle.std.specs.Prelude.{◌≡◌, List, Ok};
 ghost use Rattle.dir_tree.specs.Entry.{EntryInformation};
 ghost use Rattle.acdf_filters.specs.declared.asking.Requester.{Requester};
-ghost use Rattle.op_add_delete.specs.adding.Updates.{deleted, added};
+ghost use Rattle.op_add_delete.specs.adding.Updates.{Made, deleted, added};
 ghost use Rattle.change_laws.specs.op_modify.Modifying.{modified};
 ghost use Rattle.change_laws.specs.op_modify.Renames.{renamed};
 ghost use Rattle.change_laws.specs.op_modify.ldap_msg.declared.kinds.AddRequest.{AddRequest};
@@ -22,17 +22,17 @@ use op_add_delete::schema_rules::laws::a_tree_stays_good_in_place;
 /// What was accepted of whoever asked leaves the same entries when it is applied without asking.
 pub fn what_was_accepted_is_applied()
     ensures deleted { (entries : List EntryInformation) (who : Requester) (request : DeleteRequest)
-        → (deleted entries who request).refusal ≡ None
-        → applied entries (request_of.Delete request) ≡ Ok (deleted entries who request).entries }
+        (after : List EntryInformation) → deleted entries who request ≡ Made after
+        → applied entries (request_of.Delete request) ≡ Ok after }
     ensures added { (entries : List EntryInformation) (who : Requester) (request : AddRequest)
-        → (added entries who request).refusal ≡ None
-        → applied entries (request_of.Add request) ≡ Ok (added entries who request).entries }
+        (after : List EntryInformation) → added entries who request ≡ Made after
+        → applied entries (request_of.Add request) ≡ Ok after }
     ensures modified { (entries : List EntryInformation) (who : Requester) (request : ModifyRequest)
-        → (modified entries who request).refusal ≡ None
-        → applied entries (request_of.Modify request) ≡ Ok (modified entries who request).entries }
+        (after : List EntryInformation) → modified entries who request ≡ Made after
+        → applied entries (request_of.Modify request) ≡ Ok after }
     ensures renamed { (entries : List EntryInformation) (who : Requester) (request : RenameRequest)
-        → (renamed entries who request).refusal ≡ None
-        → applied entries (request_of.Rename request) ≡ Ok (renamed entries who request).entries }
+        (after : List EntryInformation) → renamed entries who request ≡ Made after
+        → applied entries (request_of.Rename request) ≡ Ok after }
 {
     exactly_what_may_be_done_is_done();
     exactly_what_may_be_changed_is_changed();

@@ -6,9 +6,6 @@ ghost use Rattle.crash_laws.specs.Going.{WritesItsFileOn, WritesItsFileOnInTurn}
 ghost use Rattle.crash_laws.specs.Crashes.{ACrashKeepsWhatWasShown, ACrashKeepsWhatWasThere};
 ghost use Rattle.crash_laws.specs.Starting.{StartsWithWhatWasWritten, BeginsWithTheHeadOfItsData, StartsWithTheDataWhereTheHeadIsTorn, AStartAfterACrashHasWhatWasShown};
 
-use change_replay::change_laws::laws::{
-    a_refusal_leaves_the_entries, a_refused_change_leaves_the_entries,
-};
 use change_replay::laws::what_was_accepted_is_recovered;
 
 /// A message of octets asks with names and values of octets (RFC 4511 5.1).
@@ -35,10 +32,7 @@ pub fn a_written_file_is_read_again()
 pub fn a_server_writes_its_file_on()
     ensures exact { WritesItsFileOn }
     ensures front { WritesItsFileOnInTurn }
-{
-    a_refusal_leaves_the_entries();
-    a_refused_change_leaves_the_entries();
-}
+{}
 
 /// A crash keeps what was shown. Wherever octets of a reply were taken, let a text be left of the file that has at least what
 /// was stored before them, and of all that was to be written a front. Its whole part is then a file of accepted changes

@@ -6,6 +6,7 @@ ghost use Rattle.session_hub.specs.session_model.ldap_msg.declared.kinds.Request
 ghost use Rattle.session_hub.specs.session_model.ldap_msg.reading.Messages.{message_of};
 ghost use Rattle.data_file.specs.ldif_records.writing.WrittenFile.{written_file};
 ghost use Rattle.data_file.specs.ldif_load.load.DataFile.{loads};
+ghost use Rattle.change_laws.specs.op_add_delete.adding.Updates.{left_by};
 ghost use Rattle.change_replay.specs.Accepted.{outcome};
 ghost use Rattle.change_replay.specs.Laws.{IsOfOctets};
 ghost use Rattle.session_hub.specs.session_model.Run.{Step, run};
@@ -17,9 +18,8 @@ ghost use Rattle.session_hub.specs.Answering.{rules};
 ghost use Rattle.loading_laws.specs.LoadableTrees.{AreOctets, IsLoadableTree};
 
 use change_laws::laws::{
-    a_good_tree_stays_good, a_good_tree_stays_good_when_changed, a_refusal_leaves_the_entries,
-    a_refused_change_leaves_the_entries, exactly_what_may_be_changed_is_changed,
-    exactly_what_may_be_done_is_done,
+    a_good_tree_stays_good, a_good_tree_stays_good_when_changed,
+    exactly_what_may_be_changed_is_changed, exactly_what_may_be_done_is_done,
 };
 use data_file::laws::{
     what_is_loaded_is_good, what_is_loaded_is_loadable, what_is_written_loads_again,
@@ -29,12 +29,10 @@ use data_file::laws::{
 /// brings are of octets: each value that comes is of its type's syntax and of at most 65,536 octets (RFC 4511 4.6 to 4.9).
 pub fn a_loadable_tree_stays_loadable()
     ensures exact { (entries : DirectoryEntries) (who : Requester) (asked : Request) → IsOfOctets asked
-        → IsLoadableTree entries → IsLoadableTree (outcome entries who asked).entries }
+        → IsLoadableTree entries → IsLoadableTree (left_by entries (outcome entries who asked)) }
 {
     exactly_what_may_be_done_is_done();
     exactly_what_may_be_changed_is_changed();
-    a_refusal_leaves_the_entries();
-    a_refused_change_leaves_the_entries();
     a_good_tree_stays_good();
     a_good_tree_stays_good_when_changed();
 }

@@ -22,7 +22,7 @@ use Rattle.ldap_msg.specs.declared.kinds.KindValues.{KindValues}
 use Rattle.read_model.specs.Views.{result_of}
 use Rattle.op_add_delete.specs.reading.NewEntries.{read_values, read_each, read_attributes, repeats, new_entry}
 use Rattle.op_add_delete.specs.adding.Adding.{refuses_entry, rule_refusal}
-use Rattle.op_add_delete.specs.adding.Updates.{refused, unless, deleted_named, added_named}
+use Rattle.op_add_delete.specs.adding.Updates.{Changed, Refused, Made, unless, left_by, IsChanged, deleted_named, added_named}
 
 -- a value whose key is its octets
 plain_value : List ℕ → Keyed
@@ -43,10 +43,10 @@ given : List ℕ → List (List ℕ) → KindValues
 given kind values = record { kind = kind; values = values }
 
 -- a name that is none, and the empty name
-a_bad_name : (entries : List EntryInformation) (who : Requester) → deleted_named entries who (Err TooMany) ≡ refused entries (result_of code.InvalidDnSyntax)
+a_bad_name : (entries : List EntryInformation) (who : Requester) → deleted_named entries who (Err TooMany) ≡ Refused (result_of code.InvalidDnSyntax)
 a_bad_name entries who = refl
 
-the_empty_name : (entries : List EntryInformation) (who : Requester) (attributes : List KindValues) → added_named entries who attributes (Ok []) ≡ refused entries (result_of code.UnwillingToPerform)
+the_empty_name : (entries : List EntryInformation) (who : Requester) (attributes : List KindValues) → added_named entries who attributes (Ok []) ≡ Refused (result_of code.UnwillingToPerform)
 the_empty_name entries who attributes = refl
 
 -- an attribute without values comes before all else, then types and values in order, and last what comes twice
@@ -98,6 +98,20 @@ nothing_refused = refl
 a_rule : rule_refusal (Some 65) ≡ Some (result_of code.ObjectClassViolation)
 a_rule = refl
 
--- a refused change leaves the entries
-refused_change : unless (Some (result_of code.EntryAlreadyExists)) (bare root ∷ []) (bare root ∷ bare below ∷ []) ≡ refused (bare root ∷ []) (result_of code.EntryAlreadyExists)
+-- a refused change leaves the entries, and one that is made leaves its own
+refused_change : unless (Some (result_of code.EntryAlreadyExists)) (bare root ∷ bare below ∷ []) ≡ Refused (result_of code.EntryAlreadyExists)
 refused_change = refl
+
+left_by_a_refused_change : left_by (bare root ∷ []) (Refused (result_of code.EntryAlreadyExists)) ≡ bare root ∷ []
+left_by_a_refused_change = refl
+
+left_by_a_change : left_by (bare root ∷ []) (unless None (bare root ∷ bare below ∷ [])) ≡ bare root ∷ bare below ∷ []
+left_by_a_change = refl
+
+-- a call that answers a refusal did not make the change, and one that answers a refusal and leaves an entry more did nothing
+-- that a change comes to
+no_refusal_of_what_is_made : (before made after : List EntryInformation) → ¬ (IsChanged before (Made made) (Some (result_of code.EntryAlreadyExists)) after)
+no_refusal_of_what_is_made before made after is = let same : Made made ≡ Refused (result_of code.EntryAlreadyExists) = is.0 in absurd cc
+
+no_refusal_with_an_entry : (changed : Changed) → ¬ (IsChanged (bare root ∷ []) changed (Some (result_of code.EntryAlreadyExists)) (bare root ∷ bare below ∷ []))
+no_refusal_with_an_entry changed is = let same : bare root ∷ bare below ∷ [] ≡ bare root ∷ [] = is.1 in absurd cc

@@ -200,9 +200,9 @@ fn add_new<D: Dir>(
     entry: Entry,
 ) -> Result<Option<LdapResult>, NoMemory>
     requires named { entry.name ≢ [] }
-    ensures ok { IfOk result (λ refusal. IsChanged
+    ensures ok { IfOk result (λ refusal. IsChanged (entries_of (D.rows dir.old))
         (unless (add_refusal (entries_of (D.rows dir.old)) who.now entry.name entry)
-        (entries_of (D.rows dir.old)) (put_in entry (entries_of (D.rows dir.old))))
+        (put_in entry (entries_of (D.rows dir.old))))
         refusal (entries_of (D.rows dir.new))) }
     ensures kept { OnErr result (D.rows dir.new ≡ D.rows dir.old) }
 {
@@ -224,7 +224,7 @@ fn add_entry<D: Dir>(
     given: &[KindValues],
 ) -> Result<Option<LdapResult>, NoMemory>
     requires named { name ≢ [] }
-    ensures ok { IfOk result (λ refusal. IsChanged
+    ensures ok { IfOk result (λ refusal. IsChanged (entries_of (D.rows dir.old))
         (added_entry (entries_of (D.rows dir.old)) who.now name (read_attributes given.now))
         refusal (entries_of (D.rows dir.new))) }
     ensures kept { OnErr result (D.rows dir.new ≡ D.rows dir.old) }
@@ -244,7 +244,7 @@ fn add_named<D: Dir>(
     name: Dn,
     given: &[KindValues],
 ) -> Result<Option<LdapResult>, NoMemory>
-    ensures ok { IfOk result (λ refusal. IsChanged
+    ensures ok { IfOk result (λ refusal. IsChanged (entries_of (D.rows dir.old))
         (added_named (entries_of (D.rows dir.old)) who.now given.now (Ok name))
         refusal (entries_of (D.rows dir.new))) }
     ensures kept { OnErr result (D.rows dir.new ≡ D.rows dir.old) }
@@ -266,7 +266,7 @@ pub fn add<D: Dir>(
     who: &Requester,
     request: &AddRequest,
 ) -> Result<Option<LdapResult>, NoMemory>
-    ensures ok { IfOk result (λ refusal. IsChanged
+    ensures ok { IfOk result (λ refusal. IsChanged (entries_of (D.rows dir.old))
         (added (entries_of (D.rows dir.old)) who.now request.now)
         refusal (entries_of (D.rows dir.new))) }
     ensures kept { OnErr result (entries_of (D.rows dir.new) ≡ entries_of (D.rows dir.old)) }

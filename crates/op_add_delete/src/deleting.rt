@@ -109,7 +109,7 @@ fn delete_entry<D: Dir>(
     who: &Requester,
     name: &Dn,
 ) -> Result<Option<LdapResult>, NoMemory>
-    ensures ok { IfOk result (λ refusal. IsChanged
+    ensures ok { IfOk result (λ refusal. IsChanged (entries_of (D.rows dir.old))
         (deleted_target (entries_of (D.rows dir.old)) who.now name.now
         (named_in name.now (entries_of (D.rows dir.old))))
         refusal (entries_of (D.rows dir.new))) }
@@ -131,7 +131,7 @@ fn delete_named<D: Dir>(
     who: &Requester,
     name: &Dn,
 ) -> Result<Option<LdapResult>, NoMemory>
-    ensures ok { IfOk result (λ refusal. IsChanged
+    ensures ok { IfOk result (λ refusal. IsChanged (entries_of (D.rows dir.old))
         (deleted_named (entries_of (D.rows dir.old)) who.now (Ok name.now))
         refusal (entries_of (D.rows dir.new))) }
     ensures kept { OnErr result (D.rows dir.new ≡ D.rows dir.old) }
@@ -152,7 +152,7 @@ pub fn delete<D: Dir>(
     who: &Requester,
     request: &DeleteRequest,
 ) -> Result<Option<LdapResult>, NoMemory>
-    ensures ok { IfOk result (λ refusal. IsChanged
+    ensures ok { IfOk result (λ refusal. IsChanged (entries_of (D.rows dir.old))
         (deleted (entries_of (D.rows dir.old)) who.now request.now)
         refusal (entries_of (D.rows dir.new))) }
     ensures kept { OnErr result (entries_of (D.rows dir.new) ≡ entries_of (D.rows dir.old)) }

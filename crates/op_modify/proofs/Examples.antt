@@ -17,7 +17,7 @@ use Rattle.ldap_msg.specs.declared.operations.ResultCode.TheVariants as code
 use Rattle.ldap_msg.specs.declared.kinds.Change.{Change}
 use Rattle.read_model.specs.Views.{result_of}
 use Rattle.op_add_delete.specs.reading.NewEntries.{read_values, repeats}
-use Rattle.op_add_delete.specs.adding.Updates.{refused}
+use Rattle.op_add_delete.specs.adding.Updates.{Refused}
 use Rattle.op_modify.specs.ReadChanges.{is_no_change, change_of, read_each, read_changes}
 use Rattle.op_modify.specs.Modifying.{modified_as, modified_named}
 use Rattle.op_modify.specs.ReadRenames.{new_superior, asks_rename}
@@ -90,21 +90,21 @@ unfolding plain_value given read_changes read_each read_values repeats attribute
 values_of_two_changes = refl
 
 -- a name that is none, and the empty name
-a_bad_name : (entries : List EntryInformation) (who : Requester) (changes : List Change) → modified_named entries who changes (Err TooMany) ≡ refused entries (result_of code.InvalidDnSyntax)
+a_bad_name : (entries : List EntryInformation) (who : Requester) (changes : List Change) → modified_named entries who changes (Err TooMany) ≡ Refused (result_of code.InvalidDnSyntax)
 a_bad_name entries who changes = refl
 
-the_empty_name : (entries : List EntryInformation) (who : Requester) (changes : List Change) → modified_named entries who changes (Ok []) ≡ refused entries (result_of code.UnwillingToPerform)
+the_empty_name : (entries : List EntryInformation) (who : Requester) (changes : List Change) → modified_named entries who changes (Ok []) ≡ Refused (result_of code.UnwillingToPerform)
 the_empty_name entries who changes = refl
 
--- a refused change leaves the entries
-a_refused_change : (entries : List EntryInformation) (target : EntryInformation) → modified_as entries target (Err code.NoSuchAttribute) ≡ refused entries (result_of code.NoSuchAttribute)
+-- a change that can't be made refuses the modify
+a_refused_change : (entries : List EntryInformation) (target : EntryInformation) → modified_as entries target (Err code.NoSuchAttribute) ≡ Refused (result_of code.NoSuchAttribute)
 a_refused_change entries target = refl
 
 -- what is no rename, and the root's
-no_rename : (entries : List EntryInformation) (who : Requester) → renamed_by entries who None ≡ refused entries (result_of code.InvalidDnSyntax)
+no_rename : (entries : List EntryInformation) (who : Requester) → renamed_by entries who None ≡ Refused (result_of code.InvalidDnSyntax)
 no_rename entries who = refl
 
-the_root : (entries : List EntryInformation) (who : Requester) → renamed_by entries who (Some (record { name = []; rdn = root; delete_old = true; superior = None })) ≡ refused entries (result_of code.UnwillingToPerform)
+the_root : (entries : List EntryInformation) (who : Requester) → renamed_by entries who (Some (record { name = []; rdn = root; delete_old = true; superior = None })) ≡ Refused (result_of code.UnwillingToPerform)
 the_root entries who = refl
 
 -- the present superior may be given, in any spelling, and is as if none were; another one moves the entry

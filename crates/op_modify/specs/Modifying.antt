@@ -19,7 +19,7 @@ use Rattle.ldap_msg.specs.declared.kinds.Change.{Change}
 use Rattle.ldap_msg.specs.declared.kinds.ModifyRequest.{ModifyRequest}
 use Rattle.read_model.specs.Views.{view_of, hidden, result_of}
 use Rattle.op_add_delete.specs.adding.Adding.{rule_refusal}
-use Rattle.op_add_delete.specs.adding.Updates.{Changed, refused, unless}
+use Rattle.op_add_delete.specs.adding.Updates.{Changed, Refused, unless}
 use Rattle.op_modify.specs.ReadChanges.{read_changes}
 
 -- who answers of the entry, for the requester
@@ -28,28 +28,28 @@ asker_of entries who entry = record { allows = granted entries who entry; adds =
 
 -- the entry that the changes leave takes the target's place, unless it breaks a rule there
 abbrev pub modified_as : List EntryInformation → EntryInformation → Result EntryInformation ResultCode → Changed
-modified_as entries target (Err code) = refused entries (result_of code)
+modified_as entries target (Err code) = Refused (result_of code)
 modified_as entries target (Ok left) =
-    unless (rule_refusal (broken_rule (Some target) (taken_out target.name entries) left)) entries
+    unless (rule_refusal (broken_rule (Some target) (taken_out target.name entries) left))
     (put_in left (taken_out target.name entries))
 
 -- the changes of the entry that has the name, if there is one: it must be one that may be modified
 abbrev pub modified_target : List EntryInformation → Requester → RdnSequence → List Modification → Option EntryInformation → Changed
-modified_target entries who name changes None = refused entries (hidden (view_of entries who) name)
+modified_target entries who name changes None = Refused (hidden (view_of entries who) name)
 modified_target entries who name changes (Some target) =
     if granted entries who target Entry Modify
     then modified_as entries target (changed_by (asker_of entries who target) target changes)
-    else refused entries (hidden (view_of entries who) name)
+    else Refused (hidden (view_of entries who) name)
 
 -- the changes, where they could be read
 abbrev pub modified_by : List EntryInformation → Requester → RdnSequence → Result (List Modification) ResultCode → Changed
-modified_by entries who name (Err code) = refused entries (result_of code)
+modified_by entries who name (Err code) = Refused (result_of code)
 modified_by entries who name (Ok changes) = modified_target entries who name changes (named_in name entries)
 
 -- a modify, by what its name is: the empty name is no entry's
 abbrev pub modified_named : List EntryInformation → Requester → List Change → Result RdnSequence BadName → Changed
-modified_named entries who given (Err bad) = refused entries (result_of code.InvalidDnSyntax)
-modified_named entries who given (Ok []) = refused entries (result_of code.UnwillingToPerform)
+modified_named entries who given (Err bad) = Refused (result_of code.InvalidDnSyntax)
+modified_named entries who given (Ok []) = Refused (result_of code.UnwillingToPerform)
 modified_named entries who given (Ok (rdn ∷ rdns)) = modified_by entries who (rdn ∷ rdns) (read_changes given)
 
 -- what a modify comes to

@@ -20,7 +20,7 @@ use Rattle.ldap_msg.specs.declared.kinds.RenameRequest.{RenameRequest}
 use Rattle.read_model.specs.Views.{view_of, hidden, no_such_object, result_of}
 use Rattle.op_add_delete.specs.directory.Targets.{is_suffix, not_leaf}
 use Rattle.op_add_delete.specs.adding.Adding.{rule_refusal}
-use Rattle.op_add_delete.specs.adding.Updates.{Changed, refused, unless}
+use Rattle.op_add_delete.specs.adding.Updates.{Changed, Refused, unless}
 use Rattle.op_modify.specs.ReadRenames.{read_renaming, moves, asks_rename, above}
 use Rattle.op_modify.specs.declared.renaming.Renaming.{Renaming}
 
@@ -90,19 +90,19 @@ rename_refusal entries who renaming target entry = first_some (rename_rows entri
 -- the entry takes the target's place, unless there is a refusal
 abbrev pub renamed_as : List EntryInformation → Requester → Renaming → EntryInformation → EntryInformation → Changed
 renamed_as entries who renaming target entry =
-    unless (rename_refusal entries who renaming target entry) entries (put_in entry (taken_out target.name entries))
+    unless (rename_refusal entries who renaming target entry) (put_in entry (taken_out target.name entries))
 
 -- a rename of the entry that has the name, if there is one
 abbrev pub renamed_target : List EntryInformation → Requester → Renaming → Option EntryInformation → Changed
-renamed_target entries who renaming None = refused entries (hidden (view_of entries who) renaming.name)
+renamed_target entries who renaming None = Refused (hidden (view_of entries who) renaming.name)
 renamed_target entries who renaming (Some target) =
     renamed_as entries who renaming target (renamed_entry (new_name entries renaming) renaming.delete_old target)
 
 -- a rename, by what was read: the root is no entry
 abbrev pub renamed_by : List EntryInformation → Requester → Option Renaming → Changed
-renamed_by entries who None = refused entries (result_of code.InvalidDnSyntax)
+renamed_by entries who None = Refused (result_of code.InvalidDnSyntax)
 renamed_by entries who (Some renaming) =
-    if length renaming.name == 0 then refused entries (result_of code.UnwillingToPerform)
+    if length renaming.name == 0 then Refused (result_of code.UnwillingToPerform)
     else renamed_target entries who renaming (named_in renaming.name entries)
 
 -- what a rename comes to

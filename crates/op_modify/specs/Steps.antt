@@ -11,9 +11,9 @@ use Rattle.ldap_msg.specs.declared.kinds.LdapResult.{LdapResult}
 use Rattle.read_model.specs.Views.{view_of, hidden, no_such_object, result_of}
 use Rattle.op_add_delete.specs.directory.Targets.{not_leaf}
 use Rattle.op_add_delete.specs.adding.Adding.{rule_refusal}
-use Rattle.op_add_delete.specs.adding.Updates.{Changed, refused, unless}
+use Rattle.op_add_delete.specs.adding.Updates.{Changed, Refused, Made}
 use Rattle.op_modify.specs.declared.replacing.Checked.{Checked}
-use Rattle.op_modify.specs.declared.replacing.Checked.TheVariants.{Refused, Allowed}
+use Rattle.op_modify.specs.declared.replacing.Checked.TheVariants as checked
 use Rattle.op_modify.specs.ReadRenames.{above}
 use Rattle.op_modify.specs.Renames.{other_named, taken_refusal, is_withheld, is_unmovable, is_unwelcome}
 use Rattle.op_modify.specs.declared.renaming.Renaming.{Renaming}
@@ -22,12 +22,12 @@ use Rattle.op_modify.specs.declared.renaming.Renaming.{Renaming}
 pub record IsInPlace (changed : Changed) (rows : List Numbered) (id : ℕ) (entry : EntryInformation) : Type 0 where
   pub target : EntryInformation
   pub found : entry_of id rows ≡ Some target
-  pub leaves : changed ≡ unless None (entries_of rows) (put_in entry (taken_out target.name (entries_of rows)))
+  pub leaves : changed ≡ Made (put_in entry (taken_out target.name (entries_of rows)))
 
 -- what came of the checks is what the change comes to
 abbrev pub IsChecked : Changed → List Numbered → Checked → Type 0
-IsChecked changed rows (Refused refusal) = changed ≡ refused (entries_of rows) refusal
-IsChecked changed rows (Allowed number entry) = IsInPlace changed rows number.0 entry
+IsChecked changed rows (checked.Refused refusal) = changed ≡ Refused refusal
+IsChecked changed rows (checked.Allowed number entry) = IsInPlace changed rows number.0 entry
 
 -- the rows of a rename's table that the target and the new superior decide
 abbrev pub leaving_rows : List EntryInformation → Requester → Renaming → EntryInformation → List (Option LdapResult)

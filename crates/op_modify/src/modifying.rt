@@ -116,7 +116,7 @@ fn modify_by<D: Dir>(
     name: &Dn,
     changes: Vec<EntryChange>,
 ) -> Result<Option<LdapResult>, NoMemory>
-    ensures ok { IfOk result (λ refusal. IsChanged
+    ensures ok { IfOk result (λ refusal. IsChanged (entries_of (D.rows dir.old))
         (modified_by (entries_of (D.rows dir.old)) who.now name.now (Ok changes.items))
         refusal (entries_of (D.rows dir.new))) }
     ensures kept { OnErr result (D.rows dir.new ≡ D.rows dir.old) }
@@ -133,7 +133,7 @@ fn modify_entry<D: Dir>(
     name: &Dn,
     given: &[Change],
 ) -> Result<Option<LdapResult>, NoMemory>
-    ensures ok { IfOk result (λ refusal. IsChanged
+    ensures ok { IfOk result (λ refusal. IsChanged (entries_of (D.rows dir.old))
         (modified_by (entries_of (D.rows dir.old)) who.now name.now (read_changes given.now))
         refusal (entries_of (D.rows dir.new))) }
     ensures kept { OnErr result (D.rows dir.new ≡ D.rows dir.old) }
@@ -153,7 +153,7 @@ fn modify_named<D: Dir>(
     name: &Dn,
     given: &[Change],
 ) -> Result<Option<LdapResult>, NoMemory>
-    ensures ok { IfOk result (λ refusal. IsChanged
+    ensures ok { IfOk result (λ refusal. IsChanged (entries_of (D.rows dir.old))
         (modified_named (entries_of (D.rows dir.old)) who.now given.now (Ok name.now))
         refusal (entries_of (D.rows dir.new))) }
     ensures kept { OnErr result (D.rows dir.new ≡ D.rows dir.old) }
@@ -175,7 +175,7 @@ pub fn modify<D: Dir>(
     who: &Requester,
     request: &ModifyRequest,
 ) -> Result<Option<LdapResult>, NoMemory>
-    ensures ok { IfOk result (λ refusal. IsChanged
+    ensures ok { IfOk result (λ refusal. IsChanged (entries_of (D.rows dir.old))
         (modified (entries_of (D.rows dir.old)) who.now request.now)
         refusal (entries_of (D.rows dir.new))) }
     ensures kept { OnErr result (entries_of (D.rows dir.new) ≡ entries_of (D.rows dir.old)) }

@@ -145,7 +145,7 @@ fn rename_by<D: Dir>(
     who: &Requester,
     renaming: &Renaming,
 ) -> Result<Option<LdapResult>, NoMemory>
-    ensures ok { IfOk result (λ refusal. IsChanged
+    ensures ok { IfOk result (λ refusal. IsChanged (entries_of (D.rows dir.old))
         (renamed_by (entries_of (D.rows dir.old)) who.now (Some renaming.now))
         refusal (entries_of (D.rows dir.new))) }
     ensures kept { OnErr result (D.rows dir.new ≡ D.rows dir.old) }
@@ -172,7 +172,7 @@ pub fn rename<D: Dir>(
     who: &Requester,
     request: &RenameRequest,
 ) -> Result<Option<LdapResult>, NoMemory>
-    ensures ok { IfOk result (λ refusal. IsChanged
+    ensures ok { IfOk result (λ refusal. IsChanged (entries_of (D.rows dir.old))
         (renamed (entries_of (D.rows dir.old)) who.now request.now)
         refusal (entries_of (D.rows dir.new))) }
     ensures kept { OnErr result (entries_of (D.rows dir.new) ≡ entries_of (D.rows dir.old)) }

@@ -69,7 +69,7 @@ pub(crate) fn make<D: Dir>(
     checked: Checked,
 ) -> Result<Option<LdapResult>, NoMemory>
     ensures ok { IfOk result (λ refusal. (changed : Changed) → IsChecked changed (D.rows dir.old) checked
-        → IsChanged changed refusal (entries_of (D.rows dir.new))) }
+        → IsChanged (entries_of (D.rows dir.old)) changed refusal (entries_of (D.rows dir.new))) }
     ensures kept { OnErr result (D.rows dir.new ≡ D.rows dir.old) }
 {
     match checked {

@@ -27,14 +27,14 @@ use Rattle.session_model.specs.ldap_msg.declared.kinds.SearchRequest.{SearchRequ
 use Rattle.op_read.specs.aci_item.declared.level.Level.TheVariants as level
 use Rattle.op_read.specs.read_model.Views.{result_of}
 use Rattle.op_bind.specs.Binds.{bind_answer}
-use Rattle.change_laws.specs.op_add_delete.adding.Updates.{added, deleted}
+use Rattle.change_laws.specs.op_add_delete.adding.Updates.{Refused, Made, added, deleted}
 use Rattle.change_records.specs.Written.{record_text}
 use Rattle.session_model.specs.Rules.{talk}
 use Rattle.session_model.specs.Kept.{speech}
 use Rattle.session_hub.specs.Parties.{Requester, nobody}
 use Rattle.session_hub.specs.Terms.{no_terms}
 use Rattle.session_hub.specs.Controls.{subentries_asked, page_asked}
-use Rattle.session_hub.specs.Answering.{rules, recorded, kept_changes, answered}
+use Rattle.session_hub.specs.Answering.{rules, recorded, changing, replying, kept_changes, answered}
 use Rattle.session_hub.specs.WhoAmI.{authz_id}
 use Rattle.session_hub.specs.Limiting.{lesser_limit}
 use Rattle.session_hub.specs.Rooms.{room_of, queued_beside}
@@ -236,17 +236,25 @@ queues_beside : queued_beside 1
     ∷ record { number = 2; rest = []; who = nobody; queue = 7 ∷ 7 ∷ []; closing = false; cut = None } ∷ []) ≡ 2
 queues_beside = refl
 
--- the record of a delete that nothing refuses, and none of one that is refused, nor of a search; and none is to be stored
--- where no changes are kept
-recorded_delete : recorded None (request.Delete (record { name = codes "o=A" })) ≡ record_text (request.Delete (record { name = codes "o=A" }))
+-- the record of a delete that is made, and none of one that is refused, nor of a search; and none is to be stored where no
+-- changes are kept
+recorded_delete : recorded (Made []) (request.Delete (record { name = codes "o=A" })) ≡ record_text (request.Delete (record { name = codes "o=A" }))
 recorded_delete = refl
 
-refused_delete : recorded (Some (result_of code.NoSuchObject)) (request.Delete (record { name = codes "o=A" })) ≡ []
+refused_delete : recorded (Refused (result_of code.NoSuchObject)) (request.Delete (record { name = codes "o=A" })) ≡ []
 refused_delete = refl
 
-recorded_search : recorded None (request.Search a_search) ≡ []
+recorded_search : recorded (Made []) (request.Search a_search) ≡ []
 unfolding record_text
 recorded_search = refl
+
+-- a change that is refused is answered so, and nothing else comes of it; one that is made is answered with success
+refused_change : changing [] nobody (request.Delete (record { name = codes "o=A" })) (Refused (result_of code.NoSuchObject))
+    ≡ replying [] nobody (reply.Delete (result_of code.NoSuchObject) ∷ [])
+refused_change = refl
+
+made_change : (changing [] nobody (request.Delete (record { name = codes "o=A" })) (Made [])).replies ≡ reply.Delete (result_of code.Success) ∷ []
+made_change = refl
 
 unkept_delete : kept_changes false (codes "dn: o=A\n") ≡ []
 unkept_delete = refl

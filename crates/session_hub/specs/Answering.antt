@@ -21,7 +21,7 @@ use Rattle.op_read.specs.page_core.Endings.{page_end}
 use Rattle.op_read.specs.page_core.Pages.{Paged, unpaged, ended, page_replies}
 use Rattle.op_read.specs.read_model.CompareReplies.{compare_result}
 use Rattle.op_bind.specs.Binds.{bind_answer}
-use Rattle.change_laws.specs.op_add_delete.adding.Updates.{Changed, unless, added, deleted}
+use Rattle.change_laws.specs.op_add_delete.adding.Updates.{Changed, Refused, Made, left_by, added, deleted}
 use Rattle.change_laws.specs.op_modify.Modifying.{modified}
 use Rattle.change_laws.specs.op_modify.Renames.{renamed}
 use Rattle.change_records.specs.Written.{record_text}
@@ -101,38 +101,38 @@ bound entries bind = record {
   who = (bind_answer entries bind).who;
 }
 
--- the result of a change: success where nothing refuses it
-abbrev pub change_result : Option LdapResult → LdapResult
-change_result None = result_of code.Success
-change_result (Some refusal) = refusal
+-- the result of a change: the refusal, or success where it is made
+abbrev pub change_result : Changed → LdapResult
+change_result (Refused refusal) = refusal
+change_result (Made after) = result_of code.Success
 
--- the record of a change that nothing refuses (RFC 2849, ldif-change-record), and none of one that is refused
-abbrev pub recorded : Option LdapResult → Request → List ℕ
-recorded None asked = record_text asked
-recorded (Some refusal) asked = []
+-- the record of a change that is made (RFC 2849, ldif-change-record), and none of one that is refused
+abbrev pub recorded : Changed → Request → List ℕ
+recorded (Refused refusal) asked = []
+recorded (Made after) asked = record_text asked
 
 -- a change of the entries that a request asks for
-abbrev pub changing : Requester → Request → Changed → Operated
-changing who asked changed = record {
-  replies = replies_in (response_to asked (change_result changed.refusal));
+abbrev pub changing : DirectoryEntries → Requester → Request → Changed → Operated
+changing entries who asked changed = record {
+  replies = replies_in (response_to asked (change_result changed));
   cookie = None;
-  changes = recorded changed.refusal asked;
-  entries = changed.entries;
+  changes = recorded changed asked;
+  entries = left_by entries changed;
   who = who;
 }
 
 -- the change that a request asks for; the entries stay where it asks for none
 abbrev pub change_of : DirectoryEntries → Requester → Request → Changed
-change_of entries who (request.Bind bind) = unless None entries entries
-change_of entries who request.Unbind = unless None entries entries
-change_of entries who (request.Search search) = unless None entries entries
+change_of entries who (request.Bind bind) = Made entries
+change_of entries who request.Unbind = Made entries
+change_of entries who (request.Search search) = Made entries
 change_of entries who (request.Modify modify) = modified entries who modify
 change_of entries who (request.Add add) = added entries who add
 change_of entries who (request.Delete delete) = deleted entries who delete
 change_of entries who (request.Rename rename) = renamed entries who rename
-change_of entries who (request.Compare compare) = unless None entries entries
-change_of entries who (request.Abandon id) = unless None entries entries
-change_of entries who (request.Extended name value) = unless None entries entries
+change_of entries who (request.Compare compare) = Made entries
+change_of entries who (request.Abandon id) = Made entries
+change_of entries who (request.Extended name value) = Made entries
 
 -- an operation that no control refuses: a search and a compare read what the requester sees of the entries, a modify, an
 -- add, a delete and a rename change them, and an extended operation may ask who the requester is
@@ -141,10 +141,10 @@ operated entries who controls (request.Bind bind) = bound entries bind
 operated entries who controls request.Unbind = replying entries who []
 operated entries who controls (request.Search search) =
     paging entries who (searched (view_of entries who) search (subentries_asked controls) (page_asked controls))
-operated entries who controls (request.Modify modify) = changing who (request.Modify modify) (modified entries who modify)
-operated entries who controls (request.Add add) = changing who (request.Add add) (added entries who add)
-operated entries who controls (request.Delete delete) = changing who (request.Delete delete) (deleted entries who delete)
-operated entries who controls (request.Rename rename) = changing who (request.Rename rename) (renamed entries who rename)
+operated entries who controls (request.Modify modify) = changing entries who (request.Modify modify) (modified entries who modify)
+operated entries who controls (request.Add add) = changing entries who (request.Add add) (added entries who add)
+operated entries who controls (request.Delete delete) = changing entries who (request.Delete delete) (deleted entries who delete)
+operated entries who controls (request.Rename rename) = changing entries who (request.Rename rename) (renamed entries who rename)
 operated entries who controls (request.Compare compare) =
     replying entries who (reply.Compare (compare_result (view_of entries who) compare) ∷ [])
 operated entries who controls (request.Abandon id) = replying entries who []

@@ -26,7 +26,6 @@ use crate::outgoing::Outgoing;
 use crate::requester::anonymous;
 use crate::results::result_of;
 use crate::simple::simple_bind;
-use change_laws::laws::{a_refusal_leaves_the_entries, a_refused_change_leaves_the_entries};
 use change_laws::op_add_delete::{add, delete};
 use change_laws::op_modify::{modify, rename};
 use change_records::put_record;
@@ -177,7 +176,8 @@ fn change<D: Dir>(
     who: &Requester,
     request: &Request,
 ) -> Result<Option<LdapResult>, AllocError>
-    ensures ok { IfOk result (λ refusal. IsChanged (change_of (entries_of (D.rows dir.old)) who.now request.now)
+    ensures ok { IfOk result (λ refusal. IsChanged (entries_of (D.rows dir.old))
+        (change_of (entries_of (D.rows dir.old)) who.now request.now)
         refusal (entries_of (D.rows dir.new))) }
     ensures kept { OnErr result (entries_of (D.rows dir.new) ≡ entries_of (D.rows dir.old)) }
 {
@@ -265,18 +265,16 @@ fn put_change<D: Dir>(
     out: &mut Outgoing,
 ) -> Result<(), AllocError>
     ensures ok { OnOk result (Sends message.now.id
-        (changing who.now message.now.request
+        (changing (entries_of (D.rows dir.old)) who.now message.now.request
         (change_of (entries_of (D.rows dir.old)) who.now message.now.request))
         out.old.replies.items out.new.replies.items (entries_of (D.rows dir.new)) who.now) }
     ensures recorded { OnOk result (out.new.changes.items ≡ out.old.changes.items ++ kept_changes keeps
-        (changing who.now message.now.request
+        (changing (entries_of (D.rows dir.old)) who.now message.now.request
         (change_of (entries_of (D.rows dir.old)) who.now message.now.request)).changes) }
     ensures err { OnErr result (out.new.replies.items ≡ out.old.replies.items) }
     ensures unrecorded { OnErr result (out.new.changes.items ≡ out.old.changes.items) }
     ensures entries { OnErr result (entries_of (D.rows dir.new) ≡ entries_of (D.rows dir.old)) }
 {
-    a_refusal_leaves_the_entries();
-    a_refused_change_leaves_the_entries();
     let before = out.replies.len();
     let unchanged = out.changes.len();
     put_accepted(alloc, message, keeps, out)?;

@@ -1,5 +1,5 @@
 -- What messages whose changes are granted are answered.
-use Rattle.std.proofs.Common.{◌≡◌, Bool, false, List, Some, None, refl, ap, sym, ◌∙◌}
+use Rattle.std.proofs.Common.{◌≡◌, Bool, false, List, Some, refl, ap, sym, ◌∙◌}
 use Rattle.dir_tree.specs.Entry.{EntryInformation}
 use Rattle.dir_tree.specs.tree.Trees.{put_in, taken_out}
 use Rattle.acdf_filters.specs.declared.asking.Requester.{Requester}
@@ -15,7 +15,7 @@ use Rattle.ldap_msg.specs.declared.kinds.Message.{Message}
 use Rattle.ldap_msg.specs.declared.kinds.LdapResult.{LdapResult}
 use Rattle.ldap_msg.specs.declared.kinds.Reply.{Reply}
 use Rattle.ldap_msg.specs.declared.kinds.Reply.TheVariants as reply
-use Rattle.change_laws.specs.op_add_delete.adding.Updates.{Changed, added, deleted, IsChanged}
+use Rattle.change_laws.specs.op_add_delete.adding.Updates.{Changed, Made, added, deleted}
 use Rattle.change_laws.specs.op_modify.Modifying.{modified}
 use Rattle.change_laws.specs.op_modify.Renames.{renamed}
 use Rattle.change_laws.specs.Granting.{MayDelete, MayAdd}
@@ -23,7 +23,7 @@ use Rattle.change_laws.specs.ChangeGranting.{MayModify, MayRename}
 use Rattle.read_model.specs.Views.{result_of}
 use Rattle.read_model.specs.SearchReplies.{replies_octets}
 use Rattle.session_hub.specs.Controls.{is_refused}
-use Rattle.session_hub.specs.Answering.{Operated, response_to, replies_in, asking, change_result, recorded, changing, operated, answered, is_unbind, sent_octets, kept_changes, answer_read}
+use Rattle.session_hub.specs.Answering.{Operated, response_to, replies_in, asking, recorded, changing, operated, answered, is_unbind, sent_octets, kept_changes, answer_read}
 use Rattle.answer_laws.specs.Asked.{AsksFor}
 use Rattle.answer_laws.specs.Made.{IsMade}
 
@@ -35,22 +35,20 @@ accepted-operated entries who controls given asked e accepted = rw (accepted, e)
 -- the answer to a message whose change nothing refuses
 answer-made : (keeps : Bool) (entries : List EntryInformation) (who : Requester) (message : Message) (asked : Request) (response : LdapResult → Reply)
     (changed : Changed) (left : List EntryInformation) → AsksFor message asked
-    → operated entries (asking who asked) message.controls asked ≡ changing who asked changed
+    → operated entries (asking who asked) message.controls asked ≡ changing entries who asked changed
     → ((result : LdapResult) → response_to asked result ≡ Some (response result)) → is_unbind asked ≡ false
-    → IsChanged changed None left → IsMade keeps who message response left (answer_read keeps entries who (Some message))
+    → changed ≡ Made left → IsMade keeps who message response left (answer_read keeps entries who (Some message))
 answer-made keeps entries who message asked response changed left asks does responds stays is =
-    let same : answered entries who message.controls message.request ≡ changing who asked changed =
-    accepted-operated entries who message.controls message.request asked asks.asks asks.accepted ∙ does in
+    let same : answered entries who message.controls message.request ≡ changing entries who asked (Made left) =
+    accepted-operated entries who message.controls message.request asked asks.asks asks.accepted ∙ does ∙ ap (changing entries who asked) is in
     record {
       replies =
           ap (λ (came : Operated). sent_octets message.id came.replies came.cookie) same
-          ∙ ap (λ refusal. replies_octets message.id (replies_in (response_to asked (change_result refusal)))) (sym is.refused)
           ∙ ap (λ reply. replies_octets message.id (replies_in reply)) (responds (result_of code.Success));
       changes =
           ap (λ (came : Operated). kept_changes keeps came.changes) same
-          ∙ ap (λ refusal. kept_changes keeps (recorded refusal asked)) (sym is.refused)
-          ∙ ap (λ given. kept_changes keeps (recorded None given)) (sym asks.asks);
-      tree = ap (λ (came : Operated). came.entries) same ∙ sym is.left;
+          ∙ ap (λ given. kept_changes keeps (recorded (Made left) given)) (sym asks.asks);
+      tree = ap (λ (came : Operated). came.entries) same;
       who_stays = ap (λ (came : Operated). came.who) same;
       stays = ap is_unbind asks.asks ∙ stays;
     }
@@ -60,7 +58,7 @@ answer-made keeps entries who message asked response changed left asks does resp
 abbrev pub Adds : Type 0
 Adds =
     (entries : List EntryInformation) (who : Requester) (add : AddRequest) (entry : EntryInformation) → MayAdd entries who add entry
-    → IsChanged (added entries who add) None (put_in entry entries)
+    → added entries who add ≡ Made (put_in entry entries)
 
 pub answer_read-added : Adds → (keeps : Bool) (entries : List EntryInformation) (who : Requester) (message : Message) (add : AddRequest) (entry : EntryInformation)
     → AsksFor message (request.Add add) → MayAdd entries who add entry
@@ -71,7 +69,7 @@ answer_read-added adds keeps entries who message add entry asks may =
 abbrev pub Deletes : Type 0
 Deletes =
     (entries : List EntryInformation) (who : Requester) (delete : DeleteRequest) (target : EntryInformation) → MayDelete entries who delete target
-    → IsChanged (deleted entries who delete) None (taken_out target.name entries)
+    → deleted entries who delete ≡ Made (taken_out target.name entries)
 
 pub answer_read-deleted : Deletes → (keeps : Bool) (entries : List EntryInformation) (who : Requester) (message : Message) (delete : DeleteRequest)
     (target : EntryInformation) → AsksFor message (request.Delete delete) → MayDelete entries who delete target
@@ -83,7 +81,7 @@ answer_read-deleted deletes keeps entries who message delete target asks may =
 abbrev pub Modifies : Type 0
 Modifies =
     (entries : List EntryInformation) (who : Requester) (modify : ModifyRequest) (target left : EntryInformation)
-    → MayModify entries who modify target left → IsChanged (modified entries who modify) None (put_in left (taken_out target.name entries))
+    → MayModify entries who modify target left → modified entries who modify ≡ Made (put_in left (taken_out target.name entries))
 
 pub answer_read-modified : Modifies → (keeps : Bool) (entries : List EntryInformation) (who : Requester) (message : Message) (modify : ModifyRequest)
     (target left : EntryInformation) → AsksFor message (request.Modify modify) → MayModify entries who modify target left
@@ -95,7 +93,7 @@ answer_read-modified modifies keeps entries who message modify target left asks 
 abbrev pub Renames : Type 0
 Renames =
     (entries : List EntryInformation) (who : Requester) (rename : RenameRequest) (target entry : EntryInformation)
-    → MayRename entries who rename target entry → IsChanged (renamed entries who rename) None (put_in entry (taken_out target.name entries))
+    → MayRename entries who rename target entry → renamed entries who rename ≡ Made (put_in entry (taken_out target.name entries))
 
 pub answer_read-renamed : Renames → (keeps : Bool) (entries : List EntryInformation) (who : Requester) (message : Message) (rename : RenameRequest)
     (target entry : EntryInformation) → AsksFor message (request.Rename rename) → MayRename entries who rename target entry

@@ -17,11 +17,10 @@ use Rattle.acdf_filters.specs.Granted.{granted_new}
 use Rattle.ldap_msg.specs.declared.operations.ResultCode.{ResultCode}
 use Rattle.ldap_msg.specs.declared.kinds.AddRequest.{AddRequest}
 use Rattle.ldap_msg.specs.declared.kinds.KindValues.{KindValues}
-use Rattle.ldap_msg.specs.declared.kinds.LdapResult.{LdapResult}
 use Rattle.op_add_delete.specs.adding.Adding.{taken_refusal, refuses_entry, rule_refusal, add_refusal}
 use Rattle.op_add_delete.specs.reading.NewEntries.{read_attributes, new_entry}
-use Rattle.op_add_delete.specs.adding.Updates.{added_entry, added_named, added}
-use Rattle.op_add_delete.proofs.Theorems.{not_broken, unless-good, unless-refused}
+use Rattle.op_add_delete.specs.adding.Updates.{left_by, added_entry, added_named, added}
+use Rattle.op_add_delete.proofs.Theorems.{not_broken, unless-good}
 use Rattle.change_laws.proofs.laws.ReadingLemmas.{name-new_entry, good-new_entry}
 use Rattle.ldap_msg.proofs.plain_values_proofs.Theorems.{none_of, none_from, not_when, when_not}
 
@@ -81,7 +80,7 @@ good_with_new entries who name given attributes some good_name read may good =
 good-added_entry :
     (entries : List EntryInformation) (who : Requester) (name : RdnSequence) (given : List KindValues)
     (found : Result (List Attribute) ResultCode) → name ≢ [] → IsGoodName name → read_attributes given ≡ found
-    → IsGoodTree entries → IsGoodTree (added_entry entries who name found).entries
+    → IsGoodTree entries → IsGoodTree (left_by entries (added_entry entries who name found))
 good-added_entry entries who name given (Err fault) some good_name read good = good
 good-added_entry entries who name given (Ok attributes) some good_name read good =
     let entry = new_entry name attributes in
@@ -90,7 +89,7 @@ good-added_entry entries who name given (Ok attributes) some good_name read good
 
 good-added_named :
     (entries : List EntryInformation) (who : Requester) (text : List ℕ) (given : List KindValues) (found : Result RdnSequence BadName)
-    → read_name text ≡ found → IsGoodTree entries → IsGoodTree (added_named entries who given found).entries
+    → read_name text ≡ found → IsGoodTree entries → IsGoodTree (left_by entries (added_named entries who given found))
 good-added_named entries who text given (Err bad) read good = good
 good-added_named entries who text given (Ok []) read good = good
 good-added_named entries who text given (Ok (rdn ∷ rdns)) read good =
@@ -99,28 +98,6 @@ good-added_named entries who text given (Ok (rdn ∷ rdns)) read good =
 
 pub good-added :
     (entries : List EntryInformation) (who : Requester) (request : AddRequest) → IsGoodTree entries
-    → IsGoodTree (added entries who request).entries
+    → IsGoodTree (left_by entries (added entries who request))
 unfolding added
 good-added entries who request good = good-added_named entries who request.name request.attributes (read_name request.name) refl good
-
--- a refusal leaves the entries
-refused-added_entry :
-    (entries : List EntryInformation) (who : Requester) (name : RdnSequence) (found : Result (List Attribute) ResultCode) (told : LdapResult)
-    → (added_entry entries who name found).refusal ≡ Some told → (added_entry entries who name found).entries ≡ entries
-refused-added_entry entries who name (Err fault) told is = refl
-refused-added_entry entries who name (Ok attributes) told is =
-    unless-refused (add_refusal entries who name (new_entry name attributes)) entries (put_in (new_entry name attributes) entries) told is
-
-refused-added_named :
-    (entries : List EntryInformation) (who : Requester) (given : List KindValues) (found : Result RdnSequence BadName) (told : LdapResult)
-    → (added_named entries who given found).refusal ≡ Some told → (added_named entries who given found).entries ≡ entries
-refused-added_named entries who given (Err bad) told is = refl
-refused-added_named entries who given (Ok []) told is = refl
-refused-added_named entries who given (Ok (rdn ∷ rdns)) told is =
-    refused-added_entry entries who (rdn ∷ rdns) (read_attributes given) told is
-
-pub refused-added :
-    (entries : List EntryInformation) (who : Requester) (request : AddRequest) (told : LdapResult)
-    → (added entries who request).refusal ≡ Some told → (added entries who request).entries ≡ entries
-unfolding added
-refused-added entries who request told is = refused-added_named entries who request.attributes (read_name request.name) told is

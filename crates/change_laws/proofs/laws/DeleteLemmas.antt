@@ -13,11 +13,10 @@ use Rattle.acdf_filters.specs.declared.asking.Requester.{Requester}
 use Rattle.acdf_filters.specs.Asking.{Entry}
 use Rattle.acdf_filters.specs.Granted.{granted}
 use Rattle.ldap_msg.specs.declared.kinds.DeleteRequest.{DeleteRequest}
-use Rattle.ldap_msg.specs.declared.kinds.LdapResult.{LdapResult}
 use Rattle.op_add_delete.specs.directory.Targets.{is_suffix}
 use Rattle.op_add_delete.specs.Deleting.{delete_refusal}
-use Rattle.op_add_delete.specs.adding.Updates.{unless, deleted_target, deleted_named, deleted, IsChanged}
-use Rattle.op_add_delete.proofs.Theorems.{unless-good, unless-refused, unless-made}
+use Rattle.op_add_delete.specs.adding.Updates.{Made, left_by, unless, deleted_target, deleted_named, deleted}
+use Rattle.op_add_delete.proofs.Theorems.{unless-good, unless-made}
 use Rattle.change_laws.specs.Granting.{MayDelete}
 use Rattle.op_add_delete.proofs.ldif_load_proofs.schema_rules_proofs.Theorems.{AreGood-taken_out}
 use Rattle.ldap_msg.proofs.plain_values_proofs.Theorems.{none_of, none_from, not_when, when_not}
@@ -62,7 +61,7 @@ unrefused-IsDeletable entries who name target is =
 -- a good tree stays good
 good-deleted_target :
     (entries : List EntryInformation) (who : Requester) (name : RdnSequence) (found : Option EntryInformation)
-    → named_in name entries ≡ found → IsGoodTree entries → IsGoodTree (deleted_target entries who name found).entries
+    → named_in name entries ≡ found → IsGoodTree entries → IsGoodTree (left_by entries (deleted_target entries who name found))
 good-deleted_target entries who name None is good = good
 good-deleted_target entries who name (Some target) is good =
     unless-good (delete_refusal entries who name target) entries (taken_out target.name entries) good (λ none.
@@ -74,7 +73,7 @@ good-deleted_target entries who name (Some target) is good =
 
 good-deleted_named :
     (entries : List EntryInformation) (who : Requester) (found : Result RdnSequence BadName) → IsGoodTree entries
-    → IsGoodTree (deleted_named entries who found).entries
+    → IsGoodTree (left_by entries (deleted_named entries who found))
 good-deleted_named entries who (Err bad) good = good
 good-deleted_named entries who (Ok []) good = good
 good-deleted_named entries who (Ok (rdn ∷ rdns)) good =
@@ -82,63 +81,41 @@ good-deleted_named entries who (Ok (rdn ∷ rdns)) good =
 
 pub good-deleted :
     (entries : List EntryInformation) (who : Requester) (request : DeleteRequest) → IsGoodTree entries
-    → IsGoodTree (deleted entries who request).entries
+    → IsGoodTree (left_by entries (deleted entries who request))
 unfolding deleted
 good-deleted entries who request good = good-deleted_named entries who (read_name request.name) good
-
--- a refusal leaves the entries
-refused-deleted_target :
-    (entries : List EntryInformation) (who : Requester) (name : RdnSequence) (found : Option EntryInformation) (told : LdapResult)
-    → (deleted_target entries who name found).refusal ≡ Some told → (deleted_target entries who name found).entries ≡ entries
-refused-deleted_target entries who name None told is = refl
-refused-deleted_target entries who name (Some target) told is =
-    unless-refused (delete_refusal entries who name target) entries (taken_out target.name entries) told is
-
-refused-deleted_named :
-    (entries : List EntryInformation) (who : Requester) (found : Result RdnSequence BadName) (told : LdapResult)
-    → (deleted_named entries who found).refusal ≡ Some told → (deleted_named entries who found).entries ≡ entries
-refused-deleted_named entries who (Err bad) told is = refl
-refused-deleted_named entries who (Ok []) told is = refl
-refused-deleted_named entries who (Ok (rdn ∷ rdns)) told is =
-    refused-deleted_target entries who (rdn ∷ rdns) (named_in (rdn ∷ rdns) entries) told is
-
-pub refused-deleted :
-    (entries : List EntryInformation) (who : Requester) (request : DeleteRequest) (told : LdapResult)
-    → (deleted entries who request).refusal ≡ Some told → (deleted entries who request).entries ≡ entries
-unfolding deleted
-refused-deleted entries who request told is = refused-deleted_named entries who (read_name request.name) told is
 
 -- what nothing refuses is done
 deleted_by :
     (entries : List EntryInformation) (who : Requester) (request : DeleteRequest) (name : RdnSequence) (target : EntryInformation)
     → read_name request.name ≡ Ok name → name ≢ [] → named_in name entries ≡ Some target
     → delete_refusal entries who name target ≡ None
-    → deleted entries who request ≡ unless None entries (taken_out target.name entries)
+    → deleted entries who request ≡ Made (taken_out target.name entries)
 unfolding deleted
 deleted_by entries who request [] target read some found none = absurd (some refl)
 deleted_by entries who request (rdn ∷ rdns) target read some found none =
     ap (deleted_named entries who) read
     ∙ ap (deleted_target entries who (rdn ∷ rdns)) found
-    ∙ ap (λ refusal. unless refusal entries (taken_out target.name entries)) none
+    ∙ ap (λ refusal. unless refusal (taken_out target.name entries)) none
 
 pub deleted-may :
     (entries : List EntryInformation) (who : Requester) (request : DeleteRequest) (target : EntryInformation)
-    → MayDelete entries who request target → IsChanged (deleted entries who request) None (taken_out target.name entries)
+    → MayDelete entries who request target → deleted entries who request ≡ Made (taken_out target.name entries)
 deleted-may entries who request target may =
-    let is = deleted_by entries who request may.name target may.name_read may.named may.found
-    (unrefused-IsDeletable entries who may.name target (record { allowed = may.allowed; other = may.other; alone = may.alone })) in
-    record { refused = sym (ap (λ changed. changed.refusal) is); left = sym (ap (λ changed. changed.entries) is) }
+    deleted_by entries who request may.name target may.name_read may.named may.found
+    (unrefused-IsDeletable entries who may.name target (record { allowed = may.allowed; other = may.other; alone = may.alone }))
 
 -- and what was done was granted
 may-deleted_target :
     (entries : List EntryInformation) (who : Requester) (request : DeleteRequest) (name : RdnSequence) (found : Option EntryInformation)
+    (after : List EntryInformation)
     → read_name request.name ≡ Ok name → name ≢ [] → named_in name entries ≡ found
-    → (deleted_target entries who name found).refusal ≡ None
+    → deleted_target entries who name found ≡ Made after
     → (target : EntryInformation) × MayDelete entries who request target
-may-deleted_target entries who request name None read some is none = absurd cc
-may-deleted_target entries who request name (Some target) read some is none =
+may-deleted_target entries who request name None after read some is made = absurd cc
+may-deleted_target entries who request name (Some target) after read some is made =
     let may = IsDeletable-unrefused entries who name target
-    (unless-made (delete_refusal entries who name target) entries (taken_out target.name entries) none) in (
+    (unless-made (delete_refusal entries who name target) (taken_out target.name entries) after made) in (
       target,
       record {
         name = name;
@@ -153,15 +130,17 @@ may-deleted_target entries who request name (Some target) read some is none =
 
 may-deleted_named :
     (entries : List EntryInformation) (who : Requester) (request : DeleteRequest) (found : Result RdnSequence BadName)
-    → read_name request.name ≡ found → (deleted_named entries who found).refusal ≡ None
+    (after : List EntryInformation)
+    → read_name request.name ≡ found → deleted_named entries who found ≡ Made after
     → (target : EntryInformation) × MayDelete entries who request target
-may-deleted_named entries who request (Err bad) read none = absurd cc
-may-deleted_named entries who request (Ok []) read none = absurd cc
-may-deleted_named entries who request (Ok (rdn ∷ rdns)) read none =
-    may-deleted_target entries who request (rdn ∷ rdns) (named_in (rdn ∷ rdns) entries) read (λ none. cc) refl none
+may-deleted_named entries who request (Err bad) after read made = absurd cc
+may-deleted_named entries who request (Ok []) after read made = absurd cc
+may-deleted_named entries who request (Ok (rdn ∷ rdns)) after read made =
+    may-deleted_target entries who request (rdn ∷ rdns) (named_in (rdn ∷ rdns) entries) after read (λ none. cc) refl made
 
 pub may-deleted :
-    (entries : List EntryInformation) (who : Requester) (request : DeleteRequest) → (deleted entries who request).refusal ≡ None
+    (entries : List EntryInformation) (who : Requester) (request : DeleteRequest) (after : List EntryInformation)
+    → deleted entries who request ≡ Made after
     → (target : EntryInformation) × MayDelete entries who request target
 unfolding deleted
-may-deleted entries who request none = may-deleted_named entries who request (read_name request.name) refl none
+may-deleted entries who request after made = may-deleted_named entries who request (read_name request.name) after refl made

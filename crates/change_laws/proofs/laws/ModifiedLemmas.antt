@@ -15,7 +15,7 @@ use Rattle.ldap_msg.specs.declared.operations.ResultCode.{ResultCode}
 use Rattle.ldap_msg.specs.declared.kinds.ModifyRequest.{ModifyRequest}
 use Rattle.op_add_delete.specs.read_model.Views.{view_of, hidden}
 use Rattle.op_add_delete.specs.adding.Adding.{rule_refusal}
-use Rattle.op_add_delete.specs.adding.Updates.{refused, unless, IsChanged}
+use Rattle.op_add_delete.specs.adding.Updates.{Refused, Made, unless}
 use Rattle.op_add_delete.proofs.Theorems.{not_broken, unless-made}
 use Rattle.entry_changes.specs.Change.{Modification, changed_by}
 use Rattle.op_modify.specs.ReadChanges.{read_changes}
@@ -30,7 +30,7 @@ modified_done :
     → named_in name entries ≡ Some target → granted entries who target Entry Modify ≡ true
     → changed_by (asker_of entries who target) target changes ≡ Ok left
     → broken_rule (Some target) (taken_out target.name entries) left ≡ None
-    → modified entries who request ≡ unless None entries (put_in left (taken_out target.name entries))
+    → modified entries who request ≡ Made (put_in left (taken_out target.name entries))
 unfolding modified
 modified_done entries who request [] changes target left name_read some changes_read found allowed is unbroken = absurd (some refl)
 modified_done entries who request (rdn ∷ rdns) changes target left name_read some changes_read found allowed is unbroken =
@@ -38,18 +38,17 @@ modified_done entries who request (rdn ∷ rdns) changes target left name_read s
     ap (modified_named entries who request.changes) name_read
     ∙ ap (modified_by entries who (rdn ∷ rdns)) changes_read
     ∙ ap (modified_target entries who (rdn ∷ rdns) changes) found
-    ∙ cond-true (asks Entry Modify) (modified_as entries target (changed_by (asker_of entries who target) target changes)) (refused entries (hidden (view_of entries who) (rdn ∷ rdns))) allowed
+    ∙ cond-true (asks Entry Modify) (modified_as entries target (changed_by (asker_of entries who target) target changes)) (Refused (hidden (view_of entries who) (rdn ∷ rdns))) allowed
     ∙ ap (modified_as entries target) is
-    ∙ ap (λ broken. unless (rule_refusal broken) entries (put_in left (taken_out target.name entries))) unbroken
+    ∙ ap (λ broken. unless (rule_refusal broken) (put_in left (taken_out target.name entries))) unbroken
 
 pub modified-may :
     (entries : List EntryInformation) (who : Requester) (request : ModifyRequest) (target left : EntryInformation)
     → MayModify entries who request target left
-    → IsChanged (modified entries who request) None (put_in left (taken_out target.name entries))
+    → modified entries who request ≡ Made (put_in left (taken_out target.name entries))
 modified-may entries who request target left may =
-    let is = modified_done entries who request may.name may.changes target left may.name_read may.named may.changes_read may.found may.allowed
-    (changed_by-may (asker_of entries who target) target may.changes left may.changed) may.unbroken in
-    record { refused = sym (ap (λ changed. changed.refusal) is); left = sym (ap (λ changed. changed.entries) is) }
+    modified_done entries who request may.name may.changes target left may.name_read may.named may.changes_read may.found may.allowed
+    (changed_by-may (asker_of entries who target) target may.changes left may.changed) may.unbroken
 
 -- and what was changed was granted
 abbrev MayModifySome : List EntryInformation → Requester → ModifyRequest → Type 0
@@ -57,12 +56,12 @@ MayModifySome entries who request = (target : EntryInformation) × (left : Entry
 
 may-modified_as :
     (entries : List EntryInformation) (who : Requester) (request : ModifyRequest) (name : RdnSequence) (changes : List Modification)
-    (target : EntryInformation) (found : Result EntryInformation ResultCode) → read_name request.name ≡ Ok name → name ≢ []
+    (target : EntryInformation) (found : Result EntryInformation ResultCode) (after : List EntryInformation) → read_name request.name ≡ Ok name → name ≢ []
     → read_changes request.changes ≡ Ok changes → named_in name entries ≡ Some target → granted entries who target Entry Modify ≡ true
-    → changed_by (asker_of entries who target) target changes ≡ found → (modified_as entries target found).refusal ≡ None
+    → changed_by (asker_of entries who target) target changes ≡ found → modified_as entries target found ≡ Made after
     → MayModifySome entries who request
-may-modified_as entries who request name changes target (Err code) name_read some changes_read known allowed is none = absurd cc
-may-modified_as entries who request name changes target (Ok left) name_read some changes_read known allowed is none =
+may-modified_as entries who request name changes target (Err code) after name_read some changes_read known allowed is done = absurd cc
+may-modified_as entries who request name changes target (Ok left) after name_read some changes_read known allowed is done =
     let broken = broken_rule (Some target) (taken_out target.name entries) left in (
       target,
       left,
@@ -75,45 +74,46 @@ may-modified_as entries who request name changes target (Ok left) name_read some
         found = known;
         allowed = allowed;
         changed = may-changed_by (asker_of entries who target) target changes left is;
-        unbroken = not_broken broken (unless-made (rule_refusal broken) entries (put_in left (taken_out target.name entries)) none);
+        unbroken = not_broken broken (unless-made (rule_refusal broken) (put_in left (taken_out target.name entries)) after done);
       },
     )
 
 may-modified_target :
     (entries : List EntryInformation) (who : Requester) (request : ModifyRequest) (name : RdnSequence) (changes : List Modification)
-    (found : Option EntryInformation) → read_name request.name ≡ Ok name → name ≢ [] → read_changes request.changes ≡ Ok changes
-    → named_in name entries ≡ found → (modified_target entries who name changes found).refusal ≡ None
+    (found : Option EntryInformation) (after : List EntryInformation) → read_name request.name ≡ Ok name → name ≢ [] → read_changes request.changes ≡ Ok changes
+    → named_in name entries ≡ found → modified_target entries who name changes found ≡ Made after
     → MayModifySome entries who request
-may-modified_target entries who request name changes None name_read some changes_read is none = absurd cc
-may-modified_target entries who request name changes (Some target) name_read some changes_read is none =
+may-modified_target entries who request name changes None after name_read some changes_read is done = absurd cc
+may-modified_target entries who request name changes (Some target) after name_read some changes_read is done =
     let asks = granted entries who target in
     let made = modified_as entries target (changed_by (asker_of entries who target) target changes) in
-    let kept = refused entries (hidden (view_of entries who) name) in
+    let kept = Refused (hidden (view_of entries who) name) in
     (elim (asks Entry Modify)
-    as (λ allowed. asks Entry Modify ≡ allowed → (if allowed then made else kept).refusal ≡ None → MayModifySome entries who request) [
-      | true ↦ λ allowed none. may-modified_as entries who request name changes target (changed_by (asker_of entries who target) target changes) name_read some changes_read is allowed refl none
-      | false ↦ λ allowed none. absurd cc
-    ]) refl none
+    as (λ allowed. asks Entry Modify ≡ allowed → (if allowed then made else kept) ≡ Made after → MayModifySome entries who request) [
+      | true ↦ λ allowed done. may-modified_as entries who request name changes target (changed_by (asker_of entries who target) target changes) after name_read some changes_read is allowed refl done
+      | false ↦ λ allowed done. absurd cc
+    ]) refl done
 
 may-modified_by :
     (entries : List EntryInformation) (who : Requester) (request : ModifyRequest) (name : RdnSequence)
-    (found : Result (List Modification) ResultCode) → read_name request.name ≡ Ok name → name ≢ []
-    → read_changes request.changes ≡ found → (modified_by entries who name found).refusal ≡ None → MayModifySome entries who request
-may-modified_by entries who request name (Err code) name_read some is none = absurd cc
-may-modified_by entries who request name (Ok changes) name_read some is none =
-    may-modified_target entries who request name changes (named_in name entries) name_read some is refl none
+    (found : Result (List Modification) ResultCode) (after : List EntryInformation) → read_name request.name ≡ Ok name → name ≢ []
+    → read_changes request.changes ≡ found → modified_by entries who name found ≡ Made after → MayModifySome entries who request
+may-modified_by entries who request name (Err code) after name_read some is done = absurd cc
+may-modified_by entries who request name (Ok changes) after name_read some is done =
+    may-modified_target entries who request name changes (named_in name entries) after name_read some is refl done
 
 may-modified_named :
     (entries : List EntryInformation) (who : Requester) (request : ModifyRequest) (found : Result RdnSequence BadName)
-    → read_name request.name ≡ found → (modified_named entries who request.changes found).refusal ≡ None
+    (after : List EntryInformation) → read_name request.name ≡ found → modified_named entries who request.changes found ≡ Made after
     → MayModifySome entries who request
-may-modified_named entries who request (Err bad) is none = absurd cc
-may-modified_named entries who request (Ok []) is none = absurd cc
-may-modified_named entries who request (Ok (rdn ∷ rdns)) is none =
-    may-modified_by entries who request (rdn ∷ rdns) (read_changes request.changes) is (λ none. cc) refl none
+may-modified_named entries who request (Err bad) after is done = absurd cc
+may-modified_named entries who request (Ok []) after is done = absurd cc
+may-modified_named entries who request (Ok (rdn ∷ rdns)) after is done =
+    may-modified_by entries who request (rdn ∷ rdns) (read_changes request.changes) after is (λ none. cc) refl done
 
 pub may-modified :
-    (entries : List EntryInformation) (who : Requester) (request : ModifyRequest) → (modified entries who request).refusal ≡ None
+    (entries : List EntryInformation) (who : Requester) (request : ModifyRequest) (after : List EntryInformation)
+    → modified entries who request ≡ Made after
     → (target : EntryInformation) × (left : EntryInformation) × MayModify entries who request target left
 unfolding modified
-may-modified entries who request none = may-modified_named entries who request (read_name request.name) refl none
+may-modified entries who request after done = may-modified_named entries who request (read_name request.name) after refl done

@@ -17,11 +17,10 @@ use Rattle.acdf_filters.specs.Granted.{granted}
 use Rattle.ldap_msg.specs.declared.operations.ResultCode.{ResultCode}
 use Rattle.ldap_msg.specs.declared.kinds.Change.{Change}
 use Rattle.ldap_msg.specs.declared.kinds.ModifyRequest.{ModifyRequest}
-use Rattle.ldap_msg.specs.declared.kinds.LdapResult.{LdapResult}
 use Rattle.op_add_delete.specs.read_model.Views.{view_of, hidden}
 use Rattle.op_add_delete.specs.adding.Adding.{rule_refusal}
-use Rattle.op_add_delete.specs.adding.Updates.{refused}
-use Rattle.op_add_delete.proofs.Theorems.{not_broken, unless-good, unless-refused}
+use Rattle.op_add_delete.specs.adding.Updates.{Refused, left_by}
+use Rattle.op_add_delete.proofs.Theorems.{not_broken, unless-good}
 use Rattle.entry_changes.specs.Change.{Asker, Modification, changed_by}
 use Rattle.op_modify.specs.ReadChanges.{read_changes}
 use Rattle.op_modify.specs.Modifying.{asker_of, modified_as, modified_target, modified_by, modified_named, modified}
@@ -73,7 +72,7 @@ module _ (stays : StaysUnderName) (keeps_good : ChangesKeepGood) (keeps_name : C
       (entries : List EntryInformation) (asker : Asker) (target : EntryInformation) (changes : List Modification)
       (found : Result EntryInformation ResultCode) → named_in target.name entries ≡ Some target
       → AllByRecursion HasDistinctValues changes → changed_by asker target changes ≡ found → IsGoodTree entries
-      → IsGoodTree (modified_as entries target found).entries
+      → IsGoodTree (left_by entries (modified_as entries target found))
   good-modified_as entries asker target changes (Err code) known distinct is good = good
   good-modified_as entries asker target changes (Ok left) known distinct is good =
       let broken = broken_rule (Some target) (taken_out target.name entries) left in
@@ -83,26 +82,26 @@ module _ (stays : StaysUnderName) (keeps_good : ChangesKeepGood) (keeps_name : C
   good-modified_target :
       (entries : List EntryInformation) (who : Requester) (name : RdnSequence) (changes : List Modification) (found : Option EntryInformation)
       → named_in name entries ≡ found → AllByRecursion HasDistinctValues changes → IsGoodTree entries
-      → IsGoodTree (modified_target entries who name changes found).entries
+      → IsGoodTree (left_by entries (modified_target entries who name changes found))
   good-modified_target entries who name changes None is distinct good = good
   good-modified_target entries who name changes (Some target) is distinct good =
       let asker = asker_of entries who target in
       elim (granted entries who target Entry Modify)
-      as (λ allowed. IsGoodTree (if allowed then modified_as entries target (changed_by asker target changes) else refused entries (hidden (view_of entries who) name)).entries) [
+      as (λ allowed. IsGoodTree (left_by entries (if allowed then modified_as entries target (changed_by asker target changes) else Refused (hidden (view_of entries who) name)))) [
         | true ↦ good-modified_as entries asker target changes (changed_by asker target changes) (found_by_own_name name target entries is) distinct refl good
         | false ↦ good
       ]
 
   good-modified_by :
       (entries : List EntryInformation) (who : Requester) (name : RdnSequence) (given : List Change) (found : Result (List Modification) ResultCode)
-      → read_changes given ≡ found → IsGoodTree entries → IsGoodTree (modified_by entries who name found).entries
+      → read_changes given ≡ found → IsGoodTree entries → IsGoodTree (left_by entries (modified_by entries who name found))
   good-modified_by entries who name given (Err code) is good = good
   good-modified_by entries who name given (Ok changes) is good =
       good-modified_target entries who name changes (named_in name entries) refl (distinct-read_changes given changes is) good
 
   good-modified_named :
       (entries : List EntryInformation) (who : Requester) (given : List Change) (found : Result RdnSequence BadName) → IsGoodTree entries
-      → IsGoodTree (modified_named entries who given found).entries
+      → IsGoodTree (left_by entries (modified_named entries who given found))
   good-modified_named entries who given (Err bad) good = good
   good-modified_named entries who given (Ok []) good = good
   good-modified_named entries who given (Ok (rdn ∷ rdns)) good =
@@ -110,52 +109,6 @@ module _ (stays : StaysUnderName) (keeps_good : ChangesKeepGood) (keeps_name : C
 
   pub good-modified :
       (entries : List EntryInformation) (who : Requester) (request : ModifyRequest) → IsGoodTree entries
-      → IsGoodTree (modified entries who request).entries
+      → IsGoodTree (left_by entries (modified entries who request))
   unfolding modified
   good-modified entries who request good = good-modified_named entries who request.changes (read_name request.name) good
-
--- a refusal leaves the entries
-refused-modified_as :
-    (entries : List EntryInformation) (target : EntryInformation) (found : Result EntryInformation ResultCode) (refusal : LdapResult)
-    → (modified_as entries target found).refusal ≡ Some refusal → (modified_as entries target found).entries ≡ entries
-refused-modified_as entries target (Err code) refusal is = refl
-refused-modified_as entries target (Ok left) refusal is =
-    unless-refused (rule_refusal (broken_rule (Some target) (taken_out target.name entries) left)) entries
-    (put_in left (taken_out target.name entries)) refusal is
-
-refused-modified_target :
-    (entries : List EntryInformation) (who : Requester) (name : RdnSequence) (changes : List Modification) (found : Option EntryInformation)
-    (refusal : LdapResult) → (modified_target entries who name changes found).refusal ≡ Some refusal
-    → (modified_target entries who name changes found).entries ≡ entries
-refused-modified_target entries who name changes None refusal is = refl
-refused-modified_target entries who name changes (Some target) refusal is =
-    let made = modified_as entries target (changed_by (asker_of entries who target) target changes) in
-    let kept = refused entries (hidden (view_of entries who) name) in
-    (elim (granted entries who target Entry Modify)
-    as (λ allowed. (if allowed then made else kept).refusal ≡ Some refusal → (if allowed then made else kept).entries ≡ entries) [
-      | true ↦ refused-modified_as entries target (changed_by (asker_of entries who target) target changes) refusal
-      | false ↦ λ _. refl
-    ]) is
-
-refused-modified_by :
-    (entries : List EntryInformation) (who : Requester) (name : RdnSequence) (found : Result (List Modification) ResultCode)
-    (refusal : LdapResult) → (modified_by entries who name found).refusal ≡ Some refusal
-    → (modified_by entries who name found).entries ≡ entries
-refused-modified_by entries who name (Err code) refusal is = refl
-refused-modified_by entries who name (Ok changes) refusal is =
-    refused-modified_target entries who name changes (named_in name entries) refusal is
-
-refused-modified_named :
-    (entries : List EntryInformation) (who : Requester) (given : List Change) (found : Result RdnSequence BadName) (refusal : LdapResult)
-    → (modified_named entries who given found).refusal ≡ Some refusal → (modified_named entries who given found).entries ≡ entries
-refused-modified_named entries who given (Err bad) refusal is = refl
-refused-modified_named entries who given (Ok []) refusal is = refl
-refused-modified_named entries who given (Ok (rdn ∷ rdns)) refusal is =
-    refused-modified_by entries who (rdn ∷ rdns) (read_changes given) refusal is
-
-pub refused-modified :
-    (entries : List EntryInformation) (who : Requester) (request : ModifyRequest) (refusal : LdapResult)
-    → (modified entries who request).refusal ≡ Some refusal → (modified entries who request).entries ≡ entries
-unfolding modified
-refused-modified entries who request refusal is =
-    refused-modified_named entries who request.changes (read_name request.name) refusal is

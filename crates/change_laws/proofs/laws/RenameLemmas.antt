@@ -14,12 +14,11 @@ use Rattle.acdf_filters.specs.Asking.{Entry}
 use Rattle.acdf_filters.specs.Granted.{granted, granted_new}
 use Rattle.ldap_msg.specs.declared.operations.ResultCode.TheVariants as code
 use Rattle.ldap_msg.specs.declared.kinds.RenameRequest.{RenameRequest}
-use Rattle.ldap_msg.specs.declared.kinds.LdapResult.{LdapResult}
 use Rattle.op_add_delete.specs.directory.Targets.{is_suffix}
 use Rattle.op_add_delete.specs.read_model.Views.{result_of}
 use Rattle.op_add_delete.specs.adding.Adding.{rule_refusal}
-use Rattle.op_add_delete.specs.adding.Updates.{Changed, refused}
-use Rattle.op_add_delete.proofs.Theorems.{not_broken, unless-good, unless-refused}
+use Rattle.op_add_delete.specs.adding.Updates.{Refused, left_by}
+use Rattle.op_add_delete.proofs.Theorems.{not_broken, unless-good}
 use Rattle.entry_changes.specs.Renaming.{renamed_entry}
 use Rattle.op_modify.specs.declared.renaming.Renaming.{Renaming}
 use Rattle.op_modify.specs.ReadRenames.{moves, asks_rename, above}
@@ -142,7 +141,7 @@ module _ (stays : StaysUnderNewName) (keeps_good : RenameKeepsGood) (called : Re
 
     good_found :
         (found : Option EntryInformation) → named_in renaming.name entries ≡ found
-        → IsGoodTree (renamed_target entries who renaming found).entries
+        → IsGoodTree (left_by entries (renamed_target entries who renaming found))
     good_found None is = good
     good_found (Some target) is =
         let entry = renamed_entry (new_name entries renaming) renaming.delete_old target in
@@ -151,48 +150,18 @@ module _ (stays : StaysUnderNewName) (keeps_good : RenameKeepsGood) (called : Re
 
   good_read :
       (entries : List EntryInformation) (who : Requester) (request : RenameRequest) (renaming : Renaming) → IsRead request renaming
-      → IsGoodTree entries → IsGoodTree (renamed_by entries who (Some renaming)).entries
+      → IsGoodTree entries → IsGoodTree (left_by entries (renamed_by entries who (Some renaming)))
   good_read entries who request renaming read good =
-      let kept = refused entries (result_of code.UnwillingToPerform) in
+      let kept = Refused (result_of code.UnwillingToPerform) in
       let made = renamed_target entries who renaming (named_in renaming.name entries) in
-      (elim (length renaming.name == 0) as (λ empty. (length renaming.name == 0) ≡ empty → IsGoodTree (if empty then kept else made).entries) [
+      (elim (length renaming.name == 0) as (λ empty. (length renaming.name == 0) ≡ empty → IsGoodTree (left_by entries (if empty then kept else made))) [
         | true ↦ λ _. good
         | false ↦ λ some. good_found entries who request renaming read (some_rdns renaming.name some) good (named_in renaming.name entries) refl
       ]) refl
 
   pub good-renamed :
       (entries : List EntryInformation) (who : Requester) (request : RenameRequest) → IsGoodTree entries
-      → IsGoodTree (renamed entries who request).entries
+      → IsGoodTree (left_by entries (renamed entries who request))
   good-renamed entries who request good =
-      by_reading (λ changed. IsGoodTree changed.entries) entries who request good
+      by_reading (λ changed. IsGoodTree (left_by entries changed)) entries who request good
       (λ renaming is. good_read entries who request renaming (IsRead-read request renaming is) good)
-
--- the change leaves the entries, where this refusal is its
-abbrev LeavesWhereRefused : List EntryInformation → LdapResult → Changed → Type 0
-LeavesWhereRefused entries refusal changed = changed.refusal ≡ Some refusal → changed.entries ≡ entries
-
--- a refusal leaves the entries
-refused_found :
-    (entries : List EntryInformation) (who : Requester) (renaming : Renaming) (found : Option EntryInformation) (refusal : LdapResult)
-    → LeavesWhereRefused entries refusal (renamed_target entries who renaming found)
-refused_found entries who renaming None refusal is = refl
-refused_found entries who renaming (Some target) refusal is =
-    let entry = renamed_entry (new_name entries renaming) renaming.delete_old target in
-    unless-refused (rename_refusal entries who renaming target entry) entries (put_in entry (taken_out target.name entries)) refusal is
-
-refused_read :
-    (entries : List EntryInformation) (who : Requester) (renaming : Renaming) (refusal : LdapResult)
-    → LeavesWhereRefused entries refusal (renamed_by entries who (Some renaming))
-refused_read entries who renaming refusal =
-    let kept = refused entries (result_of code.UnwillingToPerform) in
-    let made = renamed_target entries who renaming (named_in renaming.name entries) in
-    elim (length renaming.name == 0) as (λ empty. LeavesWhereRefused entries refusal (if empty then kept else made)) [
-      | true ↦ λ _. refl
-      | false ↦ refused_found entries who renaming (named_in renaming.name entries) refusal
-    ]
-
-pub refused-renamed :
-    (entries : List EntryInformation) (who : Requester) (request : RenameRequest) (refusal : LdapResult)
-    → (renamed entries who request).refusal ≡ Some refusal → (renamed entries who request).entries ≡ entries
-refused-renamed entries who request refusal =
-    by_reading (LeavesWhereRefused entries refusal) entries who request (λ _. refl) (λ renaming _. refused_read entries who renaming refusal)

@@ -7,7 +7,7 @@ use Rattle.acdf_filters.specs.declared.asking.Requester.{Requester}
 use Rattle.ldap_msg.specs.declared.operations.ResultCode.TheVariants as code
 use Rattle.ldap_msg.specs.declared.kinds.RenameRequest.{RenameRequest}
 use Rattle.op_add_delete.specs.read_model.Views.{result_of}
-use Rattle.op_add_delete.specs.adding.Updates.{refused, unless, IsChanged}
+use Rattle.op_add_delete.specs.adding.Updates.{Refused, Made, unless}
 use Rattle.op_add_delete.proofs.Theorems.{unless-made}
 use Rattle.entry_changes.specs.Renaming.{renamed_entry}
 use Rattle.op_modify.specs.declared.renaming.Renaming.{Renaming}
@@ -23,13 +23,13 @@ renamed_done :
     → named_in renaming.name entries ≡ Some target
     → rename_refusal entries who renaming target (renamed_entry (new_name entries renaming) renaming.delete_old target) ≡ None
     → renamed_by entries who (Some renaming)
-    ≡ unless None entries (put_in (renamed_entry (new_name entries renaming) renaming.delete_old target) (taken_out target.name entries))
+    ≡ Made (put_in (renamed_entry (new_name entries renaming) renaming.delete_old target) (taken_out target.name entries))
 renamed_done entries who renaming target some found none =
     let entry = renamed_entry (new_name entries renaming) renaming.delete_old target in
-    cond-false (length renaming.name == 0) (refused entries (result_of code.UnwillingToPerform))
+    cond-false (length renaming.name == 0) (Refused (result_of code.UnwillingToPerform))
     (renamed_target entries who renaming (named_in renaming.name entries)) (no_empty renaming.name some)
     ∙ ap (renamed_target entries who renaming) found
-    ∙ ap (λ refusal. unless refusal entries (put_in entry (taken_out target.name entries))) none
+    ∙ ap (λ refusal. unless refusal (put_in entry (taken_out target.name entries))) none
 
 renamable :
     (entries : List EntryInformation) (who : Requester) (request : RenameRequest) (target entry : EntryInformation)
@@ -49,31 +49,28 @@ renamable entries who request target entry may = record {
 pub renamed-may :
     (entries : List EntryInformation) (who : Requester) (request : RenameRequest) (target entry : EntryInformation)
     → MayRename entries who request target entry
-    → IsChanged (renamed entries who request) None (put_in entry (taken_out target.name entries))
+    → renamed entries who request ≡ Made (put_in entry (taken_out target.name entries))
 renamed-may entries who request target entry may =
     let renaming = may.renaming in
     let may_here = subst (λ entry. IsRenamable entries who renaming target entry) may.is (renamable entries who request target entry may) in
-    let is = renamed-read entries who request renaming may.read
+    renamed-read entries who request renaming may.read
     ∙ renamed_done entries who renaming target may.named may.found
-    (unrefused-IsRenamable entries who renaming target (renamed_entry (new_name entries renaming) renaming.delete_old target) may_here) in
-    record {
-      refused = sym (ap (λ changed. changed.refusal) is);
-      left = ap (λ entry. put_in entry (taken_out target.name entries)) may.is ∙ sym (ap (λ changed. changed.entries) is);
-    }
+    (unrefused-IsRenamable entries who renaming target (renamed_entry (new_name entries renaming) renaming.delete_old target) may_here)
+    ∙ ap (λ (entry : EntryInformation). Made (put_in entry (taken_out target.name entries))) (sym may.is)
 
 -- and what was renamed was granted
 abbrev MayRenameSome : List EntryInformation → Requester → RenameRequest → Type 0
 MayRenameSome entries who request = (target : EntryInformation) × (entry : EntryInformation) × MayRename entries who request target entry
 
-module _ (entries : List EntryInformation) (who : Requester) (request : RenameRequest) (renaming : Renaming) (read : read_renaming request ≡ Some renaming) where
+module _ (entries : List EntryInformation) (who : Requester) (request : RenameRequest) (renaming : Renaming) (read : read_renaming request ≡ Some renaming) (after : List EntryInformation) where
   may_found :
       (found : Option EntryInformation) → (length renaming.name == 0) ≡ false → named_in renaming.name entries ≡ found
-      → (renamed_target entries who renaming found).refusal ≡ None → MayRenameSome entries who request
-  may_found None some is none = absurd cc
-  may_found (Some target) some is none =
+      → renamed_target entries who renaming found ≡ Made after → MayRenameSome entries who request
+  may_found None some is done = absurd cc
+  may_found (Some target) some is done =
       let entry = renamed_entry (new_name entries renaming) renaming.delete_old target in
       let may = IsRenamable-unrefused entries who renaming target entry
-      (unless-made (rename_refusal entries who renaming target entry) entries (put_in entry (taken_out target.name entries)) none) in (
+      (unless-made (rename_refusal entries who renaming target entry) (put_in entry (taken_out target.name entries)) after done) in (
         target,
         entry,
         record {
@@ -94,19 +91,20 @@ module _ (entries : List EntryInformation) (who : Requester) (request : RenameRe
         },
       )
 
-  may_read : (renamed_by entries who (Some renaming)).refusal ≡ None → MayRenameSome entries who request
-  may_read none =
-      let kept = refused entries (result_of code.UnwillingToPerform) in
+  may_read : renamed_by entries who (Some renaming) ≡ Made after → MayRenameSome entries who request
+  may_read done =
+      let kept = Refused (result_of code.UnwillingToPerform) in
       let made = renamed_target entries who renaming (named_in renaming.name entries) in
       (elim (length renaming.name == 0)
-      as (λ empty. (length renaming.name == 0) ≡ empty → (if empty then kept else made).refusal ≡ None → MayRenameSome entries who request) [
-        | true ↦ λ empty none. absurd cc
-        | false ↦ λ some none. may_found (named_in renaming.name entries) some refl none
-      ]) refl none
+      as (λ empty. (length renaming.name == 0) ≡ empty → (if empty then kept else made) ≡ Made after → MayRenameSome entries who request) [
+        | true ↦ λ empty done. absurd cc
+        | false ↦ λ some done. may_found (named_in renaming.name entries) some refl done
+      ]) refl done
 
 pub may-renamed :
-    (entries : List EntryInformation) (who : Requester) (request : RenameRequest) → (renamed entries who request).refusal ≡ None
+    (entries : List EntryInformation) (who : Requester) (request : RenameRequest) (after : List EntryInformation)
+    → renamed entries who request ≡ Made after
     → (target : EntryInformation) × (entry : EntryInformation) × MayRename entries who request target entry
-may-renamed entries who request =
-    by_reading (λ changed. changed.refusal ≡ None → MayRenameSome entries who request) entries who request (λ none. absurd cc)
-    (λ renaming read. may_read entries who request renaming read)
+may-renamed entries who request after =
+    by_reading (λ changed. changed ≡ Made after → MayRenameSome entries who request) entries who request (λ done. absurd cc)
+    (λ renaming read. may_read entries who request renaming read after)

@@ -16,7 +16,7 @@ use Rattle.acdf_filters.specs.declared.asking.Requester.{Requester}
 use Rattle.ldap_msg.specs.declared.operations.ResultCode.TheVariants as code
 use Rattle.ldap_msg.specs.declared.kinds.RenameRequest.{RenameRequest}
 use Rattle.op_add_delete.specs.read_model.Views.{result_of}
-use Rattle.op_add_delete.specs.adding.Updates.{Changed, refused}
+use Rattle.op_add_delete.specs.adding.Updates.{Changed, Refused}
 use Rattle.op_modify.specs.declared.renaming.Renaming.{Renaming}
 use Rattle.op_modify.specs.ReadRenames.{with_room, read_superior, new_superior, read_renaming}
 use Rattle.op_modify.specs.Renames.{renamed_by, renamed}
@@ -24,7 +24,7 @@ use Rattle.op_modify.specs.Renames.{renamed_by, renamed}
 -- what holds of the refusal of a request that isn't read, and of each that is, holds of all
 pub by_reading :
     (P : Changed → Type 0) (entries : List EntryInformation) (who : Requester) (request : RenameRequest)
-    → P (refused entries (result_of code.InvalidDnSyntax))
+    → P (Refused (result_of code.InvalidDnSyntax))
     → ((renaming : Renaming) → read_renaming request ≡ Some renaming → P (renamed_by entries who (Some renaming)))
     → P (renamed entries who request)
 unfolding renamed

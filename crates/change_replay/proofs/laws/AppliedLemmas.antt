@@ -10,7 +10,7 @@ use Rattle.dir_tree.specs.tree.Trees.{named_in, has_name, superior_name, put_in,
 use Rattle.acdf_filters.specs.aci_item.Rules.{broken_rule}
 use Rattle.acdf_filters.specs.declared.asking.Requester.{Requester}
 use Rattle.op_add_delete.specs.reading.NewEntries.{new_entry}
-use Rattle.op_add_delete.specs.adding.Updates.{deleted, added, IsChanged}
+use Rattle.op_add_delete.specs.adding.Updates.{Made, left_by, deleted, added}
 use Rattle.op_add_delete.proofs.ldif_load_proofs.Theorems.{name-with_pairs}
 use Rattle.change_laws.specs.op_modify.ldap_msg.declared.kinds.AddRequest.{AddRequest}
 use Rattle.change_laws.specs.op_modify.ldap_msg.declared.kinds.DeleteRequest.{DeleteRequest}
@@ -34,19 +34,20 @@ delete-may entries who request target may =
 abbrev pub Deletes : Type 0
 Deletes =
     (entries : List EntryInformation) (who : Requester) (request : DeleteRequest) (target : EntryInformation)
-    → MayDelete entries who request target → IsChanged (deleted entries who request) None (taken_out target.name entries)
+    → MayDelete entries who request target → deleted entries who request ≡ Made (taken_out target.name entries)
 
 abbrev pub OnlyDeletes : Type 0
 OnlyDeletes =
-    (entries : List EntryInformation) (who : Requester) (request : DeleteRequest) → (deleted entries who request).refusal ≡ None
+    (entries : List EntryInformation) (who : Requester) (request : DeleteRequest) (after : List EntryInformation)
+    → deleted entries who request ≡ Made after
     → (target : EntryInformation) × MayDelete entries who request target
 
 pub applied-deleted :
-    Deletes → OnlyDeletes → (entries : List EntryInformation) (who : Requester) (request : DeleteRequest)
-    → (deleted entries who request).refusal ≡ None → applied_delete entries request ≡ Ok (deleted entries who request).entries
-applied-deleted does only entries who request none =
-    let may = only entries who request none in
-    delete-may entries who request may.0 may.1 ∙ ap Ok (does entries who request may.0 may.1).left
+    Deletes → OnlyDeletes → (entries : List EntryInformation) (who : Requester) (request : DeleteRequest) (after : List EntryInformation)
+    → deleted entries who request ≡ Made after → applied_delete entries request ≡ Ok after
+applied-deleted does only entries who request after made =
+    let may = only entries who request after made in
+    delete-may entries who request may.0 may.1 ∙ ap Ok (ap (left_by entries) (sym (does entries who request may.0 may.1) ∙ made))
 
 -- ---- adds
 
@@ -76,16 +77,17 @@ add-may entries who request entry may =
 abbrev pub Adds : Type 0
 Adds =
     (entries : List EntryInformation) (who : Requester) (request : AddRequest) (entry : EntryInformation)
-    → MayAdd entries who request entry → IsChanged (added entries who request) None (put_in entry entries)
+    → MayAdd entries who request entry → added entries who request ≡ Made (put_in entry entries)
 
 abbrev pub OnlyAdds : Type 0
 OnlyAdds =
-    (entries : List EntryInformation) (who : Requester) (request : AddRequest) → (added entries who request).refusal ≡ None
+    (entries : List EntryInformation) (who : Requester) (request : AddRequest) (after : List EntryInformation)
+    → added entries who request ≡ Made after
     → (entry : EntryInformation) × MayAdd entries who request entry
 
 pub applied-added :
-    Adds → OnlyAdds → (entries : List EntryInformation) (who : Requester) (request : AddRequest)
-    → (added entries who request).refusal ≡ None → applied_add entries request ≡ Ok (added entries who request).entries
-applied-added does only entries who request none =
-    let may = only entries who request none in
-    add-may entries who request may.0 may.1 ∙ ap Ok (does entries who request may.0 may.1).left
+    Adds → OnlyAdds → (entries : List EntryInformation) (who : Requester) (request : AddRequest) (after : List EntryInformation)
+    → added entries who request ≡ Made after → applied_add entries request ≡ Ok after
+applied-added does only entries who request after made =
+    let may = only entries who request after made in
+    add-may entries who request may.0 may.1 ∙ ap Ok (ap (left_by entries) (sym (does entries who request may.0 may.1) ∙ made))

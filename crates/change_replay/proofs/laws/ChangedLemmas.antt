@@ -10,7 +10,7 @@ use Rattle.dir_tree.specs.tree.Trees.{named_in, put_in, taken_out}
 use Rattle.acdf_filters.specs.aci_item.Rules.{broken_rule}
 use Rattle.acdf_filters.specs.declared.asking.Requester.{Requester}
 use Rattle.entry_changes.specs.Renaming.{renamed_entry}
-use Rattle.op_add_delete.specs.adding.Updates.{IsChanged}
+use Rattle.op_add_delete.specs.adding.Updates.{Made, left_by}
 use Rattle.change_laws.specs.op_modify.Modifying.{asker_of, modified}
 use Rattle.change_laws.specs.op_modify.ReadRenames.{read_renaming}
 use Rattle.change_laws.specs.op_modify.Renames.{new_name, other_named, renamed}
@@ -39,19 +39,20 @@ abbrev pub Modifies : Type 0
 Modifies =
     (entries : List EntryInformation) (who : Requester) (request : ModifyRequest) (target left : EntryInformation)
     → MayModify entries who request target left
-    → IsChanged (modified entries who request) None (put_in left (taken_out target.name entries))
+    → modified entries who request ≡ Made (put_in left (taken_out target.name entries))
 
 abbrev pub OnlyModifies : Type 0
 OnlyModifies =
-    (entries : List EntryInformation) (who : Requester) (request : ModifyRequest) → (modified entries who request).refusal ≡ None
+    (entries : List EntryInformation) (who : Requester) (request : ModifyRequest) (after : List EntryInformation)
+    → modified entries who request ≡ Made after
     → (target : EntryInformation) × (left : EntryInformation) × MayModify entries who request target left
 
 pub applied-modified :
-    Modifies → OnlyModifies → (entries : List EntryInformation) (who : Requester) (request : ModifyRequest)
-    → (modified entries who request).refusal ≡ None → applied_modify entries request ≡ Ok (modified entries who request).entries
-applied-modified does only entries who request none =
-    let may = only entries who request none in
-    modify-may entries who request may.0 may.1 may.2 ∙ ap Ok (does entries who request may.0 may.1 may.2).left
+    Modifies → OnlyModifies → (entries : List EntryInformation) (who : Requester) (request : ModifyRequest) (after : List EntryInformation)
+    → modified entries who request ≡ Made after → applied_modify entries request ≡ Ok after
+applied-modified does only entries who request after made =
+    let may = only entries who request after made in
+    modify-may entries who request may.0 may.1 may.2 ∙ ap Ok (ap (left_by entries) (sym (does entries who request may.0 may.1 may.2) ∙ made))
 
 -- ---- renames
 
@@ -85,16 +86,17 @@ abbrev pub Renames : Type 0
 Renames =
     (entries : List EntryInformation) (who : Requester) (request : RenameRequest) (target entry : EntryInformation)
     → MayRename entries who request target entry
-    → IsChanged (renamed entries who request) None (put_in entry (taken_out target.name entries))
+    → renamed entries who request ≡ Made (put_in entry (taken_out target.name entries))
 
 abbrev pub OnlyRenames : Type 0
 OnlyRenames =
-    (entries : List EntryInformation) (who : Requester) (request : RenameRequest) → (renamed entries who request).refusal ≡ None
+    (entries : List EntryInformation) (who : Requester) (request : RenameRequest) (after : List EntryInformation)
+    → renamed entries who request ≡ Made after
     → (target : EntryInformation) × (entry : EntryInformation) × MayRename entries who request target entry
 
 pub applied-renamed :
-    Renames → OnlyRenames → (entries : List EntryInformation) (who : Requester) (request : RenameRequest)
-    → (renamed entries who request).refusal ≡ None → applied_rename entries request ≡ Ok (renamed entries who request).entries
-applied-renamed does only entries who request none =
-    let may = only entries who request none in
-    rename-may entries who request may.0 may.1 may.2 ∙ ap Ok (does entries who request may.0 may.1 may.2).left
+    Renames → OnlyRenames → (entries : List EntryInformation) (who : Requester) (request : RenameRequest) (after : List EntryInformation)
+    → renamed entries who request ≡ Made after → applied_rename entries request ≡ Ok after
+applied-renamed does only entries who request after made =
+    let may = only entries who request after made in
+    rename-may entries who request may.0 may.1 may.2 ∙ ap Ok (ap (left_by entries) (sym (does entries who request may.0 may.1 may.2) ∙ made))

@@ -1,10 +1,10 @@
 -- What was accepted is replayed, and recovered where the file is cut.
-use Rattle.std.proofs.Common.{◌≡◌, ℕ, zero, suc, ◌+◌, ◌≤◌, List, [], ◌∷◌, ◌++◌, length, take, None, Ok, refl, sym, ap, subst, ◌∙◌}
+use Rattle.std.proofs.Common.{◌≡◌, ℕ, zero, suc, ◌+◌, ◌≤◌, List, [], ◌∷◌, ◌++◌, length, take, Ok, refl, sym, ap, subst, ◌∙◌}
 use Rattle.std.specs.List.{AllByRecursion}
 use Rattle.dir_tree.specs.plain_values.Results.{◌>>=◌}
 use Rattle.dir_tree.specs.Entry.{EntryInformation}
 use Rattle.acdf_filters.specs.declared.asking.Requester.{Requester}
-use Rattle.op_add_delete.specs.adding.Updates.{deleted, added}
+use Rattle.op_add_delete.specs.adding.Updates.{Made, deleted, added}
 use Rattle.change_laws.specs.op_modify.Modifying.{modified}
 use Rattle.change_laws.specs.op_modify.Renames.{renamed}
 use Rattle.change_laws.specs.op_modify.ldap_msg.declared.kinds.AddRequest.{AddRequest}
@@ -57,38 +57,38 @@ accepted-kept entries (change ∷ done) more kept are = (are.0, accepted-kept (a
 
 abbrev pub DeletesApply : Type 0
 DeletesApply =
-    (entries : List EntryInformation) (who : Requester) (delete : DeleteRequest) → (deleted entries who delete).refusal ≡ None
-    → applied entries (request.Delete delete) ≡ Ok (deleted entries who delete).entries
+    (entries : List EntryInformation) (who : Requester) (delete : DeleteRequest) (left : List EntryInformation)
+    → deleted entries who delete ≡ Made left → applied entries (request.Delete delete) ≡ Ok left
 
 abbrev pub AddsApply : Type 0
 AddsApply =
-    (entries : List EntryInformation) (who : Requester) (add : AddRequest) → (added entries who add).refusal ≡ None
-    → applied entries (request.Add add) ≡ Ok (added entries who add).entries
+    (entries : List EntryInformation) (who : Requester) (add : AddRequest) (left : List EntryInformation)
+    → added entries who add ≡ Made left → applied entries (request.Add add) ≡ Ok left
 
 abbrev pub ModifiesApply : Type 0
 ModifiesApply =
-    (entries : List EntryInformation) (who : Requester) (modify : ModifyRequest) → (modified entries who modify).refusal ≡ None
-    → applied entries (request.Modify modify) ≡ Ok (modified entries who modify).entries
+    (entries : List EntryInformation) (who : Requester) (modify : ModifyRequest) (left : List EntryInformation)
+    → modified entries who modify ≡ Made left → applied entries (request.Modify modify) ≡ Ok left
 
 abbrev pub RenamesApply : Type 0
 RenamesApply =
-    (entries : List EntryInformation) (who : Requester) (rename : RenameRequest) → (renamed entries who rename).refusal ≡ None
-    → applied entries (request.Rename rename) ≡ Ok (renamed entries who rename).entries
+    (entries : List EntryInformation) (who : Requester) (rename : RenameRequest) (left : List EntryInformation)
+    → renamed entries who rename ≡ Made left → applied entries (request.Rename rename) ≡ Ok left
 
 module _ (deletes : DeletesApply) (adds : AddsApply) (modifies : ModifiesApply) (renames : RenamesApply) where
   pub applied-outcome :
-      (entries : List EntryInformation) (who : Requester) (change : Request) → (outcome entries who change).refusal ≡ None
-      → applied entries change ≡ Ok (outcome entries who change).entries
-  applied-outcome entries who (request.Bind bind) none = absurd cc
-  applied-outcome entries who request.Unbind none = absurd cc
-  applied-outcome entries who (request.Search search) none = absurd cc
-  applied-outcome entries who (request.Modify modify) none = modifies entries who modify none
-  applied-outcome entries who (request.Add add) none = adds entries who add none
-  applied-outcome entries who (request.Delete delete) none = deletes entries who delete none
-  applied-outcome entries who (request.Rename rename) none = renames entries who rename none
-  applied-outcome entries who (request.Compare compare) none = absurd cc
-  applied-outcome entries who (request.Abandon id) none = absurd cc
-  applied-outcome entries who (request.Extended name value) none = absurd cc
+      (entries : List EntryInformation) (who : Requester) (change : Request) (left : List EntryInformation)
+      → outcome entries who change ≡ Made left → applied entries change ≡ Ok left
+  applied-outcome entries who (request.Bind bind) left made = absurd cc
+  applied-outcome entries who request.Unbind left made = absurd cc
+  applied-outcome entries who (request.Search search) left made = absurd cc
+  applied-outcome entries who (request.Modify modify) left made = modifies entries who modify left made
+  applied-outcome entries who (request.Add add) left made = adds entries who add left made
+  applied-outcome entries who (request.Delete delete) left made = deletes entries who delete left made
+  applied-outcome entries who (request.Rename rename) left made = renames entries who rename left made
+  applied-outcome entries who (request.Compare compare) left made = absurd cc
+  applied-outcome entries who (request.Abandon id) left made = absurd cc
+  applied-outcome entries who (request.Extended name value) left made = absurd cc
 
   -- one change after the other
   replayed-accepted :
@@ -98,7 +98,7 @@ module _ (deletes : DeletesApply) (adds : AddsApply) (modifies : ModifiesApply) 
   replayed-accepted number entries [] are = refl
   replayed-accepted number entries (change ∷ rest) are =
       let next = number + length (lines_of change.request) + 1 in
-      ap (λ found. at_line number found >>= λ left. replayed left (recorded next (requests_of rest))) (applied-outcome entries change.who change.request are.0.accepted)
+      ap (λ found. at_line number found >>= λ left. replayed left (recorded next (requests_of rest))) (applied-outcome entries change.who change.request (after entries change) are.0.accepted)
       ∙ replayed-accepted next (after entries change) rest are.1
 
   replayed-kept :

@@ -16,7 +16,6 @@ use Rattle.acdf_filters.specs.declared.asking.Requester.{Requester}
 use Rattle.change_laws.specs.op_modify.ldap_msg.declared.operations.ResultCode.TheVariants as code
 use Rattle.change_laws.specs.op_modify.ldap_msg.declared.kinds.RenameRequest.{RenameRequest}
 use Rattle.op_add_delete.specs.read_model.Views.{result_of}
-use Rattle.op_add_delete.specs.adding.Updates.{Changed, refused}
 use Rattle.change_laws.specs.op_modify.declared.renaming.Renaming.{Renaming}
 use Rattle.change_laws.specs.op_modify.ReadRenames.{with_room, read_superior, new_superior, read_renaming}
 use Rattle.change_laws.specs.op_modify.Renames.{renamed_by, renamed}

@@ -18,7 +18,7 @@ use Rattle.session_hub.specs.Answering.{rules}
 use Rattle.crash_laws.specs.Written.{IsWrittenFile, AreRecorded}
 use Rattle.crash_laws.specs.Going.{sessions_after, GoesOn, GoesOnInTurn}
 use Rattle.crash_laws.proofs.laws.AcceptedLemmas.{left-both, accepted_both, file-none, file-both}
-use Rattle.crash_laws.proofs.laws.MadeLemmas.{IsMade, DeletesLeave, AddsLeave, ModifiesLeave, RenamesLeave, answer_made}
+use Rattle.crash_laws.proofs.laws.MadeLemmas.{IsMade, answer_made}
 use Rattle.crash_laws.proofs.laws.RunLemmas.{run-both, answered-both, run_from_extends}
 
 -- a head alone is a written file
@@ -61,14 +61,13 @@ goes_behind first digest done front text entries goes = record {
   recorded = subst (λ changes. AreRecorded first digest changes text entries) (append_assoc done front goes.more) goes.recorded;
 }
 
-module _ (deletes : DeletesLeave) (adds : AddsLeave) (modifies : ModifiesLeave) (renames : RenamesLeave) (terms : Terms) (keeps : terms.keeps ≡ true)
-    (first : DirectoryEntries) (digest : List ℕ) where
+module _ (terms : Terms) (keeps : terms.keeps ≡ true) (first : DirectoryEntries) (digest : List ℕ) where
   -- the file with all changes so far goes on at each message of octets
   answers_extend : (done : List AcceptedChange) (file : List ℕ)
       → AnswersExtend (rules terms) AreOctets (λ entries changes. GoesOn first digest done (file ++ changes) entries)
   answers_extend done file entries who message changes octets goes =
       let came = (rules terms).answer entries who message in
-      let made = answer_made deletes adds modifies renames terms keeps entries who message octets in
+      let made = answer_made terms keeps entries who message octets in
       let next = goes_with first digest (done ++ goes.more) (file ++ changes) came.changes entries came.tree goes.recorded made in
       subst (λ text. GoesOn first digest done text came.tree) (append_assoc file changes came.changes)
       (goes_behind first digest done goes.more ((file ++ changes) ++ came.changes) came.tree next)

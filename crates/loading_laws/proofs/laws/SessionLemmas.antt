@@ -6,6 +6,7 @@ use Rattle.session_hub.specs.session_model.ldap_msg.declared.kinds.Message.{Mess
 use Rattle.session_hub.specs.session_model.ldap_msg.declared.kinds.Request.{Request}
 use Rattle.session_hub.specs.session_model.ldap_msg.declared.kinds.Request.TheVariants as request
 use Rattle.session_hub.specs.session_model.ldap_msg.reading.Messages.{message_of}
+use Rattle.change_laws.specs.op_add_delete.adding.Updates.{left_by}
 use Rattle.change_replay.specs.Accepted.{outcome}
 use Rattle.change_replay.specs.Laws.{IsOfOctets}
 use Rattle.session_hub.specs.session_model.Rules.{Rules, AnswersExtend}
@@ -62,7 +63,7 @@ module _ {T W : Type 0} (r : Rules T W) (Q : ℕ → Type 0) where
       record { steps = found.0; same = later.same ∙ sym found.1; brings = found.2 }
 
 module _
-    (stays : (entries : DirectoryEntries) (who : Requester) (asked : Request) → IsOfOctets asked → IsLoadableTree entries → IsLoadableTree (outcome entries who asked).entries)
+    (stays : (entries : DirectoryEntries) (who : Requester) (asked : Request) → IsOfOctets asked → IsLoadableTree entries → IsLoadableTree (left_by entries (outcome entries who asked)))
   where
     operated-loadable : (entries : DirectoryEntries) (who : Requester) (controls : List Control) (asked : Request) → IsOfOctets asked → IsLoadableTree entries
         → IsLoadableTree (operated entries who controls asked).entries

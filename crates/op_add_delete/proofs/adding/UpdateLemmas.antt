@@ -18,28 +18,17 @@ use Rattle.read_model.specs.Views.{result_of}
 use Rattle.op_add_delete.specs.Deleting.{delete_refusal}
 use Rattle.op_add_delete.specs.reading.NewEntries.{read_attributes, new_entry}
 use Rattle.op_add_delete.specs.adding.Adding.{add_refusal}
-use Rattle.op_add_delete.specs.adding.Updates.{Changed, IsChanged, refused, unless, deleted_target, deleted_named, deleted, added_entry, added_named, added}
+use Rattle.op_add_delete.specs.adding.Updates.{Changed, Refused, IsChanged, unless, deleted_target, deleted_named, deleted, added_entry, added_named, added}
 use Rattle.op_add_delete.specs.reading.Steps.{IsAllowed}
 use Rattle.ldif_load.proofs.Theorems.{name-with_pairs}
 
--- a refusal, and a change that is made
-pub changed-refused : (changed : Changed) (entries : List EntryInformation) (refusal ended : LdapResult) → changed ≡ refused entries ended → refusal ≡ ended → IsChanged changed (Some refusal) entries
-changed-refused changed entries refusal ended is same = record {
-  refused = ap (λ (refusal : LdapResult). Some refusal) same ∙ sym (ap (λ (changed : Changed). changed.refusal) is);
-  left = sym (ap (λ (changed : Changed). changed.entries) is);
-}
+-- a refusal, and what the same change comes to
+pub changed-refused : (entries : List EntryInformation) (changed : Changed) (refusal ended : LdapResult) → changed ≡ Refused ended → refusal ≡ ended → IsChanged entries changed (Some refusal) entries
+changed-refused entries changed refusal ended is same = (is ∙ sym (ap Refused same), refl)
 
-pub changed-done : (changed : Changed) (before after entries : List EntryInformation) → changed ≡ unless None before after → entries ≡ after → IsChanged changed None entries
-changed-done changed before after entries is same = record {
-  refused = sym (ap (λ (changed : Changed). changed.refusal) is);
-  left = same ∙ sym (ap (λ (changed : Changed). changed.entries) is);
-}
-
-pub changed-like : (one other : Changed) (refusal : Option LdapResult) (entries : List EntryInformation) → other ≡ one → IsChanged one refusal entries → IsChanged other refusal entries
-changed-like one other refusal entries same is = record {
-  refused = is.refused ∙ sym (ap (λ (changed : Changed). changed.refusal) same);
-  left = is.left ∙ sym (ap (λ (changed : Changed). changed.entries) same);
-}
+pub changed-like : (before : List EntryInformation) (one other : Changed) (refusal : Option LdapResult) (after : List EntryInformation) → other ≡ one → IsChanged before one refusal after → IsChanged before other refusal after
+changed-like before one other None after same is = same ∙ is
+changed-like before one other (Some refusal) after same is = (same ∙ is.0, is.1)
 
 -- the target may go
 pub allowed-target : (tree rows : List Numbered) (who : Requester) (name : RdnSequence) (target : EntryInformation) (id : ℕ) → tree ≡ rows → Some target ≡ named_in name (entries_of tree) → entry_of id tree ≡ Some target → delete_refusal (entries_of rows) who name target ≡ None
@@ -49,16 +38,16 @@ allowed-target tree rows who name target id e is known none = record {
   found = ap (entry_of id) (sym e) ∙ known;
   leaves =
       ap (λ (found : Option EntryInformation). deleted_target (entries_of rows) who name found) (ap (λ (rows : List Numbered). named_in name (entries_of rows)) (sym e) ∙ sym is)
-      ∙ ap (λ (refusal : Option LdapResult). unless refusal (entries_of rows) (taken_out target.name (entries_of rows))) none;
+      ∙ ap (λ (refusal : Option LdapResult). unless refusal (taken_out target.name (entries_of rows))) none;
 }
 
 -- ---- deletes, by what the name is
 
-pub deleted-bad : (entries : List EntryInformation) (who : Requester) (request : DeleteRequest) → None ≡ result_ok (read_name request.name) → deleted entries who request ≡ refused entries (result_of code.InvalidDnSyntax)
+pub deleted-bad : (entries : List EntryInformation) (who : Requester) (request : DeleteRequest) → None ≡ result_ok (read_name request.name) → deleted entries who request ≡ Refused (result_of code.InvalidDnSyntax)
 unfolding deleted
 deleted-bad entries who request e = by (read_name request.name) e
   where
-    by : (name : Result RdnSequence BadName) → None ≡ result_ok name → deleted_named entries who name ≡ refused entries (result_of code.InvalidDnSyntax)
+    by : (name : Result RdnSequence BadName) → None ≡ result_ok name → deleted_named entries who name ≡ Refused (result_of code.InvalidDnSyntax)
     by (Ok name) e = absurd cc
     by (Err bad) e = refl
 
@@ -72,11 +61,11 @@ deleted-read entries who request found e = by (read_name request.name) e
 
 -- ---- adds, by what the name is
 
-pub added-bad : (entries : List EntryInformation) (who : Requester) (request : AddRequest) → None ≡ result_ok (read_name request.name) → added entries who request ≡ refused entries (result_of code.InvalidDnSyntax)
+pub added-bad : (entries : List EntryInformation) (who : Requester) (request : AddRequest) → None ≡ result_ok (read_name request.name) → added entries who request ≡ Refused (result_of code.InvalidDnSyntax)
 unfolding added
 added-bad entries who request e = by (read_name request.name) e
   where
-    by : (name : Result RdnSequence BadName) → None ≡ result_ok name → added_named entries who request.attributes name ≡ refused entries (result_of code.InvalidDnSyntax)
+    by : (name : Result RdnSequence BadName) → None ≡ result_ok name → added_named entries who request.attributes name ≡ Refused (result_of code.InvalidDnSyntax)
     by (Ok name) e = absurd cc
     by (Err bad) e = refl
 
@@ -88,7 +77,7 @@ added-read entries who request found e = by (read_name request.name) e
     by (Ok name) e = (let same : found ≡ name = cc in ap (λ (name : RdnSequence). added_named entries who request.attributes (Ok name)) (sym same))
     by (Err bad) e = absurd cc
 
-pub added-root : (entries : List EntryInformation) (who : Requester) (given : List KindValues) (name : RdnSequence) → length name ≡ 0 → added_named entries who given (Ok name) ≡ refused entries (result_of code.UnwillingToPerform)
+pub added-root : (entries : List EntryInformation) (who : Requester) (given : List KindValues) (name : RdnSequence) → length name ≡ 0 → added_named entries who given (Ok name) ≡ Refused (result_of code.UnwillingToPerform)
 added-root entries who given [] e = refl
 added-root entries who given (rdn ∷ rdns) e = absurd (omega arith)
 
@@ -107,8 +96,8 @@ pub named-new : (name : RdnSequence) (attributes : List Attribute) (entry : Entr
 named-new name attributes entry is = ap (λ (entry : EntryInformation). entry.name) is ∙ name-with_pairs (record { name = name; attributes = attributes }) (last_rdn name)
 
 pub added-new : (entries : List EntryInformation) (who : Requester) (name : RdnSequence) (given : Result (List Attribute) ResultCode) (attributes : List Attribute) (entry : EntryInformation) → given ≡ Ok attributes → entry ≡ new_entry name attributes
-    → added_entry entries who name given ≡ unless (add_refusal entries who entry.name entry) entries (put_in entry entries)
+    → added_entry entries who name given ≡ unless (add_refusal entries who entry.name entry) (put_in entry entries)
 added-new entries who name given attributes entry read is =
     ap (added_entry entries who name) read
-    ∙ ap (λ (entry : EntryInformation). unless (add_refusal entries who name entry) entries (put_in entry entries)) (sym is)
-    ∙ ap (λ (name : RdnSequence). unless (add_refusal entries who name entry) entries (put_in entry entries)) (sym (named-new name attributes entry is))
+    ∙ ap (λ (entry : EntryInformation). unless (add_refusal entries who name entry) (put_in entry entries)) (sym is)
+    ∙ ap (λ (name : RdnSequence). unless (add_refusal entries who name entry) (put_in entry entries)) (sym (named-new name attributes entry is))

@@ -5,7 +5,7 @@ use Rattle.dir_tree.specs.Entry.{EntryInformation}
 use Rattle.acdf_filters.specs.aci_item.Rules.{IsGoodTree}
 use Rattle.ldap_msg.specs.declared.kinds.LdapResult.{LdapResult}
 use Rattle.op_add_delete.specs.adding.Adding.{rule_refusal}
-use Rattle.op_add_delete.specs.adding.Updates.{unless}
+use Rattle.op_add_delete.specs.adding.Updates.{Made, unless, left_by}
 
 -- no rule is broken where none refuses
 pub not_broken : (broken : Option ℕ) → rule_refusal broken ≡ None → broken ≡ None
@@ -15,20 +15,11 @@ not_broken (Some number) is = absurd cc
 -- a change that may be refused leaves a good tree, where it does if it is made
 pub unless-good :
     (refusal : Option LdapResult) (before after : List EntryInformation) → IsGoodTree before
-    → (refusal ≡ None → IsGoodTree after) → IsGoodTree (unless refusal before after).entries
+    → (refusal ≡ None → IsGoodTree after) → IsGoodTree (left_by before (unless refusal after))
 unless-good None before after good made = made refl
 unless-good (Some refusal) before after good made = good
 
--- one that is refused leaves the entries
-pub unless-refused :
-    (refusal : Option LdapResult) (before after : List EntryInformation) (told : LdapResult)
-    → (unless refusal before after).refusal ≡ Some told → (unless refusal before after).entries ≡ before
-unless-refused None before after told is = absurd cc
-unless-refused (Some refusal) before after told is = refl
-
--- and one that isn't had no refusal
-pub unless-made :
-    (refusal : Option LdapResult) (before after : List EntryInformation) → (unless refusal before after).refusal ≡ None
-    → refusal ≡ None
-unless-made None before after is = refl
-unless-made (Some refusal) before after is = absurd cc
+-- one that is made had no refusal
+pub unless-made : (refusal : Option LdapResult) (after left : List EntryInformation) → unless refusal after ≡ Made left → refusal ≡ None
+unless-made None after left is = refl
+unless-made (Some refusal) after left is = absurd cc

@@ -1,5 +1,4 @@
--- What a change of a directory comes to (RFC 4511 4.7 and 4.8, X.511 11.1 and 11.2): why it is refused, if it is, and the
--- entries that it leaves.
+-- What a change of a directory comes to (RFC 4511 4.7 and 4.8, X.511 11.1 and 11.2): a refusal, or the entries that it leaves.
 use Rattle.std.specs.Prelude.{◌≡◌, List, [], ◌∷◌, Option, Some, None, Result, Ok, Err}
 use Rattle.dir_tree.specs.dn_names.name.Names.{RdnSequence}
 use Rattle.dir_tree.specs.dn_names.declared.error.BadName.{BadName}
@@ -18,35 +17,36 @@ use Rattle.op_add_delete.specs.Deleting.{delete_refusal}
 use Rattle.op_add_delete.specs.reading.NewEntries.{read_attributes, new_entry}
 use Rattle.op_add_delete.specs.adding.Adding.{add_refusal}
 
--- why the change is refused, or None where it is made, and the entries afterwards
-pub record Changed : Type 0 where
-  pub refusal : Option LdapResult
-  pub entries : List EntryInformation
-
--- a call's outcome is that of the definition
-pub record IsChanged (changed : Changed) (refusal : Option LdapResult) (entries : List EntryInformation) : Type 0 where
-  pub refused : refusal ≡ changed.refusal
-  pub left : entries ≡ changed.entries
-
--- the change is refused: the entries stay
-abbrev pub refused : List EntryInformation → LdapResult → Changed
-refused entries refusal = record { refusal = Some refusal; entries = entries }
+-- what a change comes to: it is refused with this result, and the entries stay, or it is made, and leaves these
+pub data Changed : Type 0 where
+  Refused : LdapResult → Changed
+  Made : List EntryInformation → Changed
 
 -- the change is made, unless there is a refusal
-abbrev pub unless : Option LdapResult → List EntryInformation → List EntryInformation → Changed
-unless None before after = record { refusal = None; entries = after }
-unless (Some refusal) before after = refused before refusal
+abbrev pub unless : Option LdapResult → List EntryInformation → Changed
+unless None after = Made after
+unless (Some refusal) after = Refused refusal
+
+-- the entries afterwards: those before, where the change is refused
+abbrev pub left_by : List EntryInformation → Changed → List EntryInformation
+left_by before (Refused refusal) = before
+left_by before (Made after) = after
+
+-- what a call answers and leaves is what the change comes to: None and its entries, or the refusal and the entries before
+abbrev pub IsChanged : List EntryInformation → Changed → Option LdapResult → List EntryInformation → Type 0
+IsChanged before changed None after = changed ≡ Made after
+IsChanged before changed (Some refusal) after = (changed ≡ Refused refusal) × (after ≡ before)
 
 -- a delete of the entry that has the name, if there is one
 abbrev pub deleted_target : List EntryInformation → Requester → RdnSequence → Option EntryInformation → Changed
-deleted_target entries who name None = refused entries (hidden (view_of entries who) name)
+deleted_target entries who name None = Refused (hidden (view_of entries who) name)
 deleted_target entries who name (Some target) =
-    unless (delete_refusal entries who name target) entries (taken_out target.name entries)
+    unless (delete_refusal entries who name target) (taken_out target.name entries)
 
 -- a delete, by what its name is: the empty name is no entry's
 abbrev pub deleted_named : List EntryInformation → Requester → Result RdnSequence BadName → Changed
-deleted_named entries who (Err bad) = refused entries (result_of code.InvalidDnSyntax)
-deleted_named entries who (Ok []) = refused entries (result_of code.UnwillingToPerform)
+deleted_named entries who (Err bad) = Refused (result_of code.InvalidDnSyntax)
+deleted_named entries who (Ok []) = Refused (result_of code.UnwillingToPerform)
 deleted_named entries who (Ok (rdn ∷ rdns)) = deleted_target entries who (rdn ∷ rdns) (named_in (rdn ∷ rdns) entries)
 
 -- what a delete comes to
@@ -55,14 +55,14 @@ deleted entries who request = deleted_named entries who (read_name request.name)
 
 -- an add of the entry of this name with the attributes, where they could be read
 abbrev pub added_entry : List EntryInformation → Requester → RdnSequence → Result (List Attribute) ResultCode → Changed
-added_entry entries who name (Err fault) = refused entries (result_of fault)
+added_entry entries who name (Err fault) = Refused (result_of fault)
 added_entry entries who name (Ok attributes) =
-    unless (add_refusal entries who name (new_entry name attributes)) entries (put_in (new_entry name attributes) entries)
+    unless (add_refusal entries who name (new_entry name attributes)) (put_in (new_entry name attributes) entries)
 
 -- an add, by what its name is: the empty name is no entry's
 abbrev pub added_named : List EntryInformation → Requester → List KindValues → Result RdnSequence BadName → Changed
-added_named entries who given (Err bad) = refused entries (result_of code.InvalidDnSyntax)
-added_named entries who given (Ok []) = refused entries (result_of code.UnwillingToPerform)
+added_named entries who given (Err bad) = Refused (result_of code.InvalidDnSyntax)
+added_named entries who given (Ok []) = Refused (result_of code.UnwillingToPerform)
 added_named entries who given (Ok (rdn ∷ rdns)) = added_entry entries who (rdn ∷ rdns) (read_attributes given)
 
 -- what an add comes to

@@ -9,9 +9,9 @@ use Rattle.ldap_msg.specs.declared.operations.ResultCode.{ResultCode}
 use Rattle.ldap_msg.specs.declared.operations.ResultCode.TheVariants as code
 use Rattle.ldap_msg.specs.declared.kinds.KindValues.{KindValues}
 use Rattle.op_add_delete.specs.declared.deleting.Checked.{Checked}
-use Rattle.op_add_delete.specs.declared.deleting.Checked.TheVariants.{Refused, Allowed}
+use Rattle.op_add_delete.specs.declared.deleting.Checked.TheVariants as checked
 use Rattle.op_add_delete.specs.reading.NewEntries.{without_twice, read_attributes, new_entry}
-use Rattle.op_add_delete.specs.adding.Updates.{refused, unless, deleted_target}
+use Rattle.op_add_delete.specs.adding.Updates.{Refused, Made, deleted_target}
 
 -- ---- deletes
 
@@ -19,13 +19,13 @@ use Rattle.op_add_delete.specs.adding.Updates.{refused, unless, deleted_target}
 pub record IsAllowed (rows : List Numbered) (who : Requester) (name : RdnSequence) (id : ℕ) : Type 0 where
   pub target : EntryInformation
   pub found : entry_of id rows ≡ Some target
-  pub leaves : deleted_target (entries_of rows) who name (named_in name (entries_of rows)) ≡ unless None (entries_of rows) (taken_out target.name (entries_of rows))
+  pub leaves : deleted_target (entries_of rows) who name (named_in name (entries_of rows)) ≡ Made (taken_out target.name (entries_of rows))
 
 -- what came of a delete's table is what a delete of the name comes to
 abbrev pub IsChecked : List Numbered → Requester → RdnSequence → Checked → Type 0
-IsChecked rows who name (Refused refusal) =
-    deleted_target (entries_of rows) who name (named_in name (entries_of rows)) ≡ refused (entries_of rows) refusal
-IsChecked rows who name (Allowed number) = IsAllowed rows who name number.0
+IsChecked rows who name (checked.Refused refusal) =
+    deleted_target (entries_of rows) who name (named_in name (entries_of rows)) ≡ Refused refusal
+IsChecked rows who name (checked.Allowed number) = IsAllowed rows who name number.0
 
 -- ---- adds
 

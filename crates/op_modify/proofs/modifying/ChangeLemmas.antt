@@ -21,25 +21,24 @@ use Rattle.ldap_msg.specs.declared.kinds.Change.{Change}
 use Rattle.ldap_msg.specs.declared.kinds.LdapResult.{LdapResult}
 use Rattle.ldap_msg.specs.declared.kinds.ModifyRequest.{ModifyRequest}
 use Rattle.read_model.specs.Views.{result_of}
-use Rattle.op_add_delete.specs.adding.Updates.{Changed, IsChanged, refused}
-use Rattle.op_add_delete.proofs.Theorems.{changed-refused, changed-done}
+use Rattle.op_add_delete.specs.adding.Updates.{Changed, Refused, Made, IsChanged}
 use Rattle.op_modify.specs.Asked.{asker_at}
 use Rattle.op_modify.specs.ReadChanges.{read_changes}
 use Rattle.op_modify.specs.Modifying.{asker_of, modified_as, modified_by, modified_named, modified}
 use Rattle.op_modify.specs.declared.replacing.Checked.{Checked}
-use Rattle.op_modify.specs.declared.replacing.Checked.TheVariants.{Refused, Allowed}
+use Rattle.op_modify.specs.declared.replacing.Checked.TheVariants as checked
 use Rattle.op_modify.specs.Steps.{IsInPlace, IsChecked}
 
 -- what was checked, as it came
-pub made-refused : (changed : Changed) (rows : List Numbered) (checked : Checked) (refusal : LdapResult) → checked ≡ Refused refusal → IsChecked changed rows checked → IsChanged changed (Some refusal) (entries_of rows)
-made-refused changed rows checked refusal e is = changed-refused changed (entries_of rows) refusal refusal (subst (IsChecked changed rows) e is) refl
+pub made-refused : (changed : Changed) (rows : List Numbered) (given : Checked) (refusal : LdapResult) → given ≡ checked.Refused refusal → IsChecked changed rows given → IsChanged (entries_of rows) changed (Some refusal) (entries_of rows)
+made-refused changed rows given refusal e is = (subst (IsChecked changed rows) e is, refl)
 
-pub made-allowed : (changed : Changed) (old new : List Numbered) (checked : Checked) (number : EntryNo) (entry : EntryInformation) → checked ≡ Allowed number entry
+pub made-allowed : (changed : Changed) (old new : List Numbered) (given : Checked) (number : EntryNo) (entry : EntryInformation) → given ≡ checked.Allowed number entry
     → ((target : EntryInformation) → entry_of number.0 old ≡ Some target → entries_of new ≡ put_in entry (taken_out target.name (entries_of old)))
-    → IsChecked changed old checked → IsChanged changed None (entries_of new)
-made-allowed changed old new checked number entry e after is =
+    → IsChecked changed old given → IsChanged (entries_of old) changed None (entries_of new)
+made-allowed changed old new given number entry e after is =
     let placed : IsInPlace changed old number.0 entry = subst (IsChecked changed old) e is in
-    changed-done changed (entries_of old) _ (entries_of new) placed.leaves (after placed.target placed.found)
+    placed.leaves ∙ ap Made (sym (after placed.target placed.found))
 
 -- what stands beside the target, by its number
 pub broken_rule-beside : (rows : List Numbered) (id : ℕ) (target entry : EntryInformation) → IsNumberedTree rows → entry_of id rows ≡ Some target
@@ -64,11 +63,11 @@ modified_as-asked rows who id target changes left found e =
 
 -- ---- modifies, by what the name is
 
-pub modified-bad : (entries : List EntryInformation) (who : Requester) (request : ModifyRequest) → None ≡ result_ok (read_name request.name) → modified entries who request ≡ refused entries (result_of code.InvalidDnSyntax)
+pub modified-bad : (entries : List EntryInformation) (who : Requester) (request : ModifyRequest) → None ≡ result_ok (read_name request.name) → modified entries who request ≡ Refused (result_of code.InvalidDnSyntax)
 unfolding modified
 modified-bad entries who request e = by (read_name request.name) e
   where
-    by : (name : Result RdnSequence BadName) → None ≡ result_ok name → modified_named entries who request.changes name ≡ refused entries (result_of code.InvalidDnSyntax)
+    by : (name : Result RdnSequence BadName) → None ≡ result_ok name → modified_named entries who request.changes name ≡ Refused (result_of code.InvalidDnSyntax)
     by (Ok name) e = absurd cc
     by (Err bad) e = refl
 
@@ -80,7 +79,7 @@ modified-read entries who request found e = by (read_name request.name) e
     by (Ok name) e = (let same : found ≡ name = cc in ap (λ (name : RdnSequence). modified_named entries who request.changes (Ok name)) (sym same))
     by (Err bad) e = absurd cc
 
-pub modified-root : (entries : List EntryInformation) (who : Requester) (given : List Change) (name : RdnSequence) → length name ≡ 0 → modified_named entries who given (Ok name) ≡ refused entries (result_of code.UnwillingToPerform)
+pub modified-root : (entries : List EntryInformation) (who : Requester) (given : List Change) (name : RdnSequence) → length name ≡ 0 → modified_named entries who given (Ok name) ≡ Refused (result_of code.UnwillingToPerform)
 modified-root entries who given [] e = refl
 modified-root entries who given (rdn ∷ rdns) e = absurd (omega arith)
 

@@ -8,7 +8,7 @@ use Rattle.ldap_msg.specs.plain_values.Refusals.{first_some}
 use Rattle.ldap_msg.specs.declared.operations.ResultCode.TheVariants as code
 use Rattle.ldap_msg.specs.declared.kinds.LdapResult.{LdapResult}
 use Rattle.read_model.specs.Views.{result_of}
-use Rattle.op_add_delete.specs.adding.Updates.{refused, unless}
+use Rattle.op_add_delete.specs.adding.Updates.{Refused, unless}
 use Rattle.op_modify.specs.declared.renaming.Renaming.{Renaming}
 use Rattle.op_modify.specs.Renames.{rename_refusal, renamed_as, renamed_target, renamed_by}
 use Rattle.op_modify.specs.Steps.{leaving_rows, coming_rows}
@@ -26,22 +26,22 @@ first_some-past (Some other ∷ rows) more e = absurd cc
 
 -- what the target and the new superior decide
 pub renamed-stop : (entries : List EntryInformation) (who : Requester) (renaming : Renaming) (target entry : EntryInformation) (refusal : LdapResult) → first_some (leaving_rows entries who renaming target) ≡ Some refusal
-    → renamed_as entries who renaming target entry ≡ refused entries refusal
+    → renamed_as entries who renaming target entry ≡ Refused refusal
 unfolding rename_refusal
 renamed-stop entries who renaming target entry refusal e =
-    ap (λ (refusal : Option LdapResult). unless refusal entries (put_in entry (taken_out target.name entries)))
+    ap (λ (refusal : Option LdapResult). unless refusal (put_in entry (taken_out target.name entries)))
     (first_some-stop (leaving_rows entries who renaming target) (coming_rows entries who renaming target entry) refusal e)
 
 -- what the renamed entry decides
 pub renamed-past : (entries : List EntryInformation) (who : Requester) (renaming : Renaming) (target entry : EntryInformation) (refusal : Option LdapResult) → first_some (leaving_rows entries who renaming target) ≡ None
-    → first_some (coming_rows entries who renaming target entry) ≡ refusal → renamed_as entries who renaming target entry ≡ unless refusal entries (put_in entry (taken_out target.name entries))
+    → first_some (coming_rows entries who renaming target entry) ≡ refusal → renamed_as entries who renaming target entry ≡ unless refusal (put_in entry (taken_out target.name entries))
 unfolding rename_refusal
 renamed-past entries who renaming target entry refusal none e =
-    ap (λ (refusal : Option LdapResult). unless refusal entries (put_in entry (taken_out target.name entries)))
+    ap (λ (refusal : Option LdapResult). unless refusal (put_in entry (taken_out target.name entries)))
     (first_some-past (leaving_rows entries who renaming target) (coming_rows entries who renaming target entry) none ∙ e)
 
 -- a rename of what is not the root
 pub renamed_by-named : (entries : List EntryInformation) (who : Requester) (renaming : Renaming) (len : ℕ) → len ≡ length renaming.name → len ≢ 0 → renamed_by entries who (Some renaming) ≡ renamed_target entries who renaming (named_in renaming.name entries)
 renamed_by-named entries who renaming len is some =
-    cond-false (length renaming.name == 0) (refused entries (result_of code.UnwillingToPerform)) (renamed_target entries who renaming (named_in renaming.name entries))
+    cond-false (length renaming.name == 0) (Refused (result_of code.UnwillingToPerform)) (renamed_target entries who renaming (named_in renaming.name entries))
     (ne_eqb (length renaming.name) 0 (λ none. some (is ∙ none)))

@@ -10,7 +10,7 @@ use Rattle.session_model.specs.ldap_msg.declared.kinds.Control.{Control}
 use Rattle.session_model.specs.ldap_msg.declared.kinds.Message.{Message}
 use Rattle.session_model.specs.ldap_msg.reading.Messages.{message_of}
 use Rattle.op_read.specs.aci_item.Rules.{IsGoodTree}
-use Rattle.change_laws.specs.op_add_delete.adding.Updates.{added, deleted}
+use Rattle.change_laws.specs.op_add_delete.adding.Updates.{left_by, added, deleted}
 use Rattle.change_laws.specs.op_modify.Modifying.{modified}
 use Rattle.change_laws.specs.op_modify.Renames.{renamed}
 use Rattle.session_model.specs.Rules.{AnswersKeep}
@@ -26,10 +26,10 @@ one_good true a b good other = good
 one_good false a b good other = other
 
 module _
-    (deletes : (entries : DirectoryEntries) (who : Requester) (asked : DeleteRequest) → IsGoodTree entries → IsGoodTree (deleted entries who asked).entries)
-    (modifies : (entries : DirectoryEntries) (who : Requester) (asked : ModifyRequest) → IsGoodTree entries → IsGoodTree (modified entries who asked).entries)
-    (renames : (entries : DirectoryEntries) (who : Requester) (asked : RenameRequest) → IsGoodTree entries → IsGoodTree (renamed entries who asked).entries)
-    (adds : (entries : DirectoryEntries) (who : Requester) (asked : AddRequest) → IsGoodTree entries → IsGoodTree (added entries who asked).entries)
+    (deletes : (entries : DirectoryEntries) (who : Requester) (asked : DeleteRequest) → IsGoodTree entries → IsGoodTree (left_by entries (deleted entries who asked)))
+    (modifies : (entries : DirectoryEntries) (who : Requester) (asked : ModifyRequest) → IsGoodTree entries → IsGoodTree (left_by entries (modified entries who asked)))
+    (renames : (entries : DirectoryEntries) (who : Requester) (asked : RenameRequest) → IsGoodTree entries → IsGoodTree (left_by entries (renamed entries who asked)))
+    (adds : (entries : DirectoryEntries) (who : Requester) (asked : AddRequest) → IsGoodTree entries → IsGoodTree (left_by entries (added entries who asked)))
   where
     operated_good : (entries : DirectoryEntries) (who : Requester) (controls : List Control) (asked : Request) → IsGoodTree entries → IsGoodTree (operated entries who controls asked).entries
     operated_good entries who controls (request.Bind bind) good = good

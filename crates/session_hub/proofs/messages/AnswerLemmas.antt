@@ -54,11 +54,6 @@ refused_as terms r entries who bytes old new changes is h =
     (λ closes gives. subst (λ m. Gives (answer_read terms.keeps entries who m) (record { replies = old; changes = changes }) (record { replies = new; changes = changes }) entries who closes)
     (ap (limited_read terms.limit) (sym is)) (gives terms.keeps changes entries who)) h
 
--- what holds anyway holds where there is a refusal
-pub refused_anyway : {A E : Type 0} (r : Result A E) (P : Type 0) → P → OnErr r P
-refused_anyway (Ok value) P holds = tt
-refused_anyway (Err fault) P holds = holds
-
 -- a request that closes is an unbind, to which nothing is said
 unbind_says : (id : ℕ) (controls : List Control) (entries : DirectoryEntries) (who : Requester) (asked : Request) → is_unbind asked ≡ true →
     sent_octets id (answered entries who controls asked).replies (answered entries who controls asked).cookie ≡ []

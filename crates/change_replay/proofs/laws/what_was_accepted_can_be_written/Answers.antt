@@ -10,5 +10,5 @@ returns c =
     record {
       exact = λ entries change is octets.
           writable-applied c.known_types_can_be_written.ensures.exact entries (after entries change) change.request
-          (applied-outcome applies.deleted applies.added applies.modified applies.renamed entries change.who change.request is.accepted) octets;
+          (applied-outcome applies.deleted applies.added applies.modified applies.renamed entries change.who change.request (after entries change) is.accepted) octets;
     }

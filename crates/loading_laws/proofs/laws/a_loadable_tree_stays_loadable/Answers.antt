@@ -6,12 +6,10 @@ pub returns : goal.returns
 returns c =
     let done = c.exactly_what_may_be_done_is_done.ensures in
     let changed = c.exactly_what_may_be_changed_is_changed.ensures in
-    let refused = c.a_refusal_leaves_the_entries.ensures in
-    let unchanged = c.a_refused_change_leaves_the_entries.ensures in
     record {
       exact =
-          outcome-loadable (added-loadable done.added done.only_added refused.added) (deleted-loadable done.deleted done.only_deleted refused.deleted)
-          (modified-loadable changed.modified changed.only_modified unchanged.modified)
-          (renamed-loadable changed.renamed changed.only_renamed unchanged.renamed) c.a_good_tree_stays_good.ensures.added
+          outcome-loadable (added-loadable done.added done.only_added) (deleted-loadable done.deleted done.only_deleted)
+          (modified-loadable changed.modified changed.only_modified)
+          (renamed-loadable changed.renamed changed.only_renamed) c.a_good_tree_stays_good.ensures.added
           c.a_good_tree_stays_good.ensures.deleted c.a_good_tree_stays_good_when_changed.ensures.modified c.a_good_tree_stays_good_when_changed.ensures.renamed;
     }

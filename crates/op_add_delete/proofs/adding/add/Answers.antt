@@ -13,7 +13,7 @@ pub returns-in-Some-clause-ok : goal.returns-in-Some-clause-ok
 returns-in-Some-clause-ok g c =
     let entries = entries_of (g.D.Dir.rows c.args.dir.now) in
     IfOk-weaker c.add_named.result _ _
-    (λ refusal is. changed-like _ _ refusal _
+    (λ refusal is. changed-like _ _ _ refusal _
     (added-read entries c.args.who.now c.args.request.now c.in-Some.name (sym c.in-Some.is ∙ c.in_ok-name.ensures.ok ∙ ap (λ octets. result_ok (read_name octets)) c.as_slice.ensures.exact)
     ∙ ap (λ (given : List KindValues). added_named entries c.args.who.now given (Ok c.in-Some.name)) (sym c.as_slice-in-Some.ensures.exact)) is)
     c.add_named.ensures.ok

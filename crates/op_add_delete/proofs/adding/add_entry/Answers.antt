@@ -15,5 +15,5 @@ returns-in-Ok-clause-ok g c =
     let is_new = c.in-Ok.ensures.ok in
     let entries = entries_of (g.D.Dir.rows c.args.dir.now) in
     IfOk-weaker c.add_new.result _ _
-    (λ refusal is. changed-like _ _ refusal _ (added-new entries c.args.who.now c.args.name _ is_new.attributes c.in-Ok.entry is_new.read is_new.made) is)
+    (λ refusal is. changed-like _ _ _ refusal _ (added-new entries c.args.who.now c.args.name _ is_new.attributes c.in-Ok.entry is_new.read is_new.made) is)
     c.add_new.ensures.ok

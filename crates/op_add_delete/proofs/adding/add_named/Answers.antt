@@ -15,6 +15,6 @@ add_entry-requires g c = record { named = filled-name c.args.name (λ none. c.if
 pub returns-clause-ok : goal.returns-clause-ok
 returns-clause-ok g c =
     IfOk-weaker c.add_entry.result _ _
-    (λ refusal is. changed-like _ _ refusal _
+    (λ refusal is. changed-like _ _ _ refusal _
     (added-filled (entries_of (g.D.Dir.rows c.args.dir.now)) c.args.who.now c.args.given.now c.args.name (λ none. c.if-len-eq0.false (c.len.ensures.exact ∙ none))) is)
     c.add_entry.ensures.ok

@@ -11,7 +11,7 @@ pub returns-in-Some-clause-ok : goal.returns-in-Some-clause-ok
 returns-in-Some-clause-ok g c =
     let entries = entries_of (g.D.Dir.rows c.args.dir.now) in
     IfOk-weaker c.delete_named.result _ _
-    (λ refusal is. changed-like _ _ refusal _ (deleted-read entries c.args.who.now c.args.request.now c.in-Some.name (sym c.in-Some.is ∙ c.in_ok-name.ensures.ok ∙ ap (λ octets. result_ok (read_name octets)) c.as_slice.ensures.exact)) is)
+    (λ refusal is. changed-like _ _ _ refusal _ (deleted-read entries c.args.who.now c.args.request.now c.in-Some.name (sym c.in-Some.is ∙ c.in_ok-name.ensures.ok ∙ ap (λ octets. result_ok (read_name octets)) c.as_slice.ensures.exact)) is)
     c.delete_named.ensures.ok
 
 pub returns-in-None-clause-ok : goal.returns-in-None-clause-ok

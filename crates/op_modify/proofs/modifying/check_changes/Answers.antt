@@ -3,7 +3,7 @@ use Rattle.std.proofs.Common.{◌≡◌, ◌∙◌, Ok, Err, ap, sym, subst}
 use Rattle.std.proofs.lemmas.Result.{IfOk-weaker}
 use Rattle.dir_tree.specs.tree.Numbered.{entries_of}
 use Rattle.entry_changes.specs.Change.{changed_by}
-use Rattle.op_add_delete.specs.adding.Updates.{Changed, refused}
+use Rattle.op_add_delete.specs.adding.Updates.{Changed, Refused}
 use Rattle.op_modify.specs.Asked.{asker_at}
 use Rattle.op_modify.specs.Steps.{IsChecked}
 use Rattle.op_modify.proofs.modifying.ChangeLemmas.{modified_as-asked}
@@ -24,5 +24,5 @@ returns-in-Err-Refused g c =
     rw c.in-Err-Refused.field-0-is at c.in-Err-Refused.ensures.exact in
     record {
       ok = modified_as-asked rows c.args.asking.now.who.now c.args.target.number.0 c.args.target.entry.now c.args.changes.items (Err c.in-Err-Refused.code) c.requires.found told
-          ∙ ap (refused (entries_of rows)) (sym c.result_of.ensures.exact);
+          ∙ ap Refused (sym c.result_of.ensures.exact);
     }

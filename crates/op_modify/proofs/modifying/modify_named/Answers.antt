@@ -13,6 +13,6 @@ returns-then-len-eq0-clause-ok g c =
 pub returns-clause-ok : goal.returns-clause-ok
 returns-clause-ok g c =
     IfOk-weaker c.modify_entry.result _ _
-    (λ refusal is. changed-like _ _ refusal _
+    (λ refusal is. changed-like _ _ _ refusal _
     (modified-entry (entries_of (g.D.Dir.rows c.args.dir.now)) c.args.who.now c.args.given.now c.args.name.now (λ none. c.if-len-eq0.false (c.len.ensures.exact ∙ none))) is)
     c.modify_entry.ensures.ok
