@@ -35,8 +35,9 @@ fn apply_recorded(
 /// entries.
 ///
 /// `Refused` tells the first change that lacks one of these, by the line where its record begins and the number of the
-/// result code that the operation would have answered; a request that changes nothing has protocolError's. The changes
-/// before it are made then. `NoMemory` may come in place of any answer, and some of the changes are made then.
+/// result code that the operation would have answered; a request that changes nothing has protocolError's.
+/// `NoMemory` may come in place of any answer. After an error the tree is to be dropped: some of the changes are made then,
+/// and no clause says which.
 pub fn apply_changes(
     alloc: Global,
     tree: &mut Tree,
