@@ -1,7 +1,7 @@
 -- what public clauses cite
+pub mod Store
 pub mod SystemLink
 pub mod Turns
 -- what the crate's inside promises itself
 pub mod Cutting
 pub mod Places
-pub mod Store

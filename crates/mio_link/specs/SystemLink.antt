@@ -1,6 +1,8 @@
--- The link over the system's sockets, of which contracts see its counts alone.
-use Rattle.std.specs.Prelude.{ℕ}
+-- The link over the system's sockets, of which contracts see its counts, and what its store has come to.
+use Rattle.std.specs.Prelude.{◌≡◌, ℕ, Bool}
 use Rattle.mio_link.specs.declared.link.MioLink.{MioLink}
+use Rattle.mio_link.specs.declared.store.Store.TheVariants.{Failed}
+use Rattle.mio_link.specs.Store.{is_open, awaits_disk}
 
 -- how many faults the link had
 abbrev pub link_faults : {R : Type 0} → MioLink R → ℕ
@@ -13,3 +15,19 @@ lost_connections link = link.lost
 -- how many calls there was no memory for
 abbrev pub refused_calls : {R : Type 0} → MioLink R → ℕ
 refused_calls link = link.refusals
+
+-- the file of its store is open, and no call of the store failed
+abbrev pub has_store : {R : Type 0} → MioLink R → Bool
+has_store link = is_open link.store
+
+-- the disk may lack octets that were stored, or a call of the store failed
+abbrev pub waits_for_disk : {R : Type 0} → MioLink R → Bool
+waits_for_disk link = awaits_disk link.store
+
+-- a call of the store failed
+abbrev pub StoreFailed : {R : Type 0} → MioLink R → Type 0
+StoreFailed link = link.store ≡ Failed
+
+-- the store is as it was
+abbrev pub StoreStays : {R : Type 0} → MioLink R → MioLink R → Type 0
+StoreStays old new = new.store ≡ old.store

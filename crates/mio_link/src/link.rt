@@ -1,9 +1,13 @@
 //! The link over the system's sockets, and a file of the system.
 
-ghost use Rattle.std.specs.Prelude.{◌≡◌, ◌<◌, length, true, IfOk};
-ghost use Rattle.wire_io.specs.Answers.{TookFits};
+ghost use Rattle.std.specs.Prelude.{◌≡◌, ◌<◌, length, true, Err, IfOk, OnOk, OnErr};
+ghost use Rattle.plain_values.specs.Counts.{NeverFalls};
+ghost use Rattle.wire_io.specs.declared.journal.Item.{Item};
+ghost use Rattle.wire_io.specs.Answers.{HeardFits, TookFits, LinkCause, WriteCause, RefusalCause, WriteRefusal, NoteRefusal};
+ghost use Rattle.wire_io.specs.Playing.{NextPlays};
+ghost use Rattle.wire_io.specs.link.Telling.{OpenTells, StoreOpenTells, NextTells, TookTells, NoteTells};
 ghost use Rattle.mio_link.specs.Store.{awaits_disk};
-ghost use Rattle.mio_link.specs.SystemLink.{link_faults, lost_connections, refused_calls};
+ghost use Rattle.mio_link.specs.SystemLink.{link_faults, lost_connections, refused_calls, has_store, waits_for_disk, StoreFailed, StoreStays};
 
 use crate::sockets::Sockets;
 use crate::store::Store;
@@ -80,13 +84,24 @@ impl<R: Net + Clock + Files<File = File>> Link for MioLink<R> {
     ghost refusals = { λ link. link.refusals };
 
     /// The clock is the runtime's; where it can't be read no connection is idle.
-    fn end_idle_after(&mut self, seconds: u64) {
+    fn end_idle_after(&mut self, seconds: u64)
+        ensures faults { link_faults self.new ≡ link_faults self.old }
+        ensures lost { lost_connections self.new ≡ lost_connections self.old }
+        ensures refusals { refused_calls self.new ≡ refused_calls self.old }
+        ensures store { StoreStays self.old self.new }
+    {
         self.sockets.end_idle_after(seconds);
     }
 
     /// Listens at the address, an IP address and a port.
     #[tactic(auto, unfolding(wire_io::specs::link::Telling::OpenTells, wire_io::specs::Answers::LinkCause, wire_io::specs::Answers::RefusalCause, wire_io::specs::Answers::IsPlanned))]
-    fn open(&mut self, address: &str, sessions: u64) -> Result<(), NextFault> {
+    fn open(&mut self, address: &str, sessions: u64) -> Result<(), NextFault>
+        ensures tells { OpenTells None address.now sessions result None }
+        ensures cause { LinkCause None (link_faults self.old) (link_faults self.new) result }
+        ensures refusals { RefusalCause (refused_calls self.old) (refused_calls self.new) result }
+        ensures lost { NeverFalls (lost_connections self.old) (lost_connections self.new) }
+        ensures store { StoreStays self.old self.new }
+    {
         match self.sockets.open(&self.rt, address, sessions) {
             Ok(()) => Ok(()),
             Err(error) if error.kind() == ErrorKind::OutOfMemory => {
@@ -105,14 +120,23 @@ impl<R: Net + Clock + Files<File = File>> Link for MioLink<R> {
     /// besides where another process has it locked, where a store was opened before, and always after a fault
     /// of the store.
     #[tactic(auto, unfolding(wire_io::specs::link::Telling::StoreOpenTells, wire_io::specs::Answers::LinkCause, wire_io::specs::Answers::RefusalCause, wire_io::specs::Answers::IsPlanned))]
-    fn open_store(&mut self, name: &str) -> Result<(), NextFault> {
+    fn open_store(&mut self, name: &str) -> Result<(), NextFault>
+        ensures ok { OnOk result (has_store self.new ≡ true) }
+        ensures fault { result ≡ Err NextFault.Failed → StoreFailed self.new }
+        ensures memory { result ≡ Err NextFault.NoMemory → StoreStays self.old self.new }
+        ensures failed { StoreFailed self.old → result ≡ Err NextFault.Failed }
+        ensures tells { StoreOpenTells None name.now result None }
+        ensures cause { LinkCause None (link_faults self.old) (link_faults self.new) result }
+        ensures refusals { RefusalCause (refused_calls self.old) (refused_calls self.new) result }
+        ensures lost { NeverFalls (lost_connections self.old) (lost_connections self.new) }
+    {
         match self.store.open(&self.rt, name) {
             Ok(()) => Ok(()),
-            Err(error) if error.kind() == ErrorKind::OutOfMemory => {
+            Err(NextFault::NoMemory) => {
                 self.refusals = raised(self.refusals);
                 Err(NextFault::NoMemory)
             }
-            Err(_) => {
+            Err(NextFault::Failed) => {
                 self.faults = raised(self.faults);
                 Err(NextFault::Failed)
             }
@@ -123,46 +147,88 @@ impl<R: Net + Clock + Files<File = File>> Link for MioLink<R> {
     /// that, and where no store is open. After a fault nothing is written any more, and every later call of
     /// the store is a fault.
     #[tactic(auto, unfolding(wire_io::specs::link::Telling::NoteTells, wire_io::specs::Answers::LinkCause, wire_io::specs::Answers::RefusalCause, wire_io::specs::Answers::IsPlanned))]
-    fn cut_store(&mut self, length: u64) -> Result<(), NextFault> {
-        if self.store.cut(length).is_ok() {
-            return Ok(());
+    fn cut_store(&mut self, length: u64) -> Result<(), NextFault>
+        ensures ok { OnOk result (StoreStays self.old self.new) }
+        ensures err { OnErr result (StoreFailed self.new) }
+        ensures failed { StoreFailed self.old → result ≡ Err NextFault.Failed }
+        ensures tells { NoteTells None (Item.StoreCut length) result None }
+        ensures cause { LinkCause None (link_faults self.old) (link_faults self.new) result }
+        ensures refusals { RefusalCause (refused_calls self.old) (refused_calls self.new) result }
+        ensures lost { NeverFalls (lost_connections self.old) (lost_connections self.new) }
+    {
+        match self.store.cut(length) {
+            Ok(()) => Ok(()),
+            Err(_) => {
+                self.faults = raised(self.faults);
+                Err(NextFault::Failed)
+            }
         }
-        self.faults = raised(self.faults);
-        Err(NextFault::Failed)
     }
 
     /// Appends the octets to the file; the disk has them once `sync_store` has waited for it. Want of memory
     /// of the system is `Failed` too, since a front of the octets may be there. After a fault nothing is
     /// written any more, and every later call of the store is a fault.
     #[tactic(auto, unfolding(wire_io::specs::link::Telling::NoteTells, wire_io::specs::Answers::LinkCause, wire_io::specs::Answers::RefusalCause, wire_io::specs::Answers::IsPlanned))]
-    fn store(&mut self, octets: &[u8]) -> Result<(), NextFault> {
-        if self.store.append(octets).is_ok() {
-            return Ok(());
+    fn store(&mut self, octets: &[u8]) -> Result<(), NextFault>
+        ensures ok { OnOk result (has_store self.new ≡ true) }
+        ensures waits { OnOk result (waits_for_disk self.new ≡ true) }
+        ensures err { OnErr result (StoreFailed self.new) }
+        ensures failed { StoreFailed self.old → result ≡ Err NextFault.Failed }
+        ensures tells { NoteTells None (Item.Stored octets.now) result None }
+        ensures cause { LinkCause None (link_faults self.old) (link_faults self.new) result }
+        ensures refusals { RefusalCause (refused_calls self.old) (refused_calls self.new) result }
+        ensures lost { NeverFalls (lost_connections self.old) (lost_connections self.new) }
+    {
+        match self.store.append(octets) {
+            Ok(()) => Ok(()),
+            Err(_) => {
+                self.faults = raised(self.faults);
+                Err(NextFault::Failed)
+            }
         }
-        self.faults = raised(self.faults);
-        Err(NextFault::Failed)
     }
 
     /// Where octets were stored since the last wait for the disk, waits until it has them, and then lets the
     /// connections go for which octets were put off. The wait is put off while `next` may give an event at
     /// once, up to 256 times.
     #[tactic(auto, unfolding(wire_io::specs::Answers::LinkCause, wire_io::specs::Answers::RefusalCause, wire_io::specs::Answers::IsPlanned))]
-    fn sync_store(&mut self) -> Result<(), NextFault> {
+    fn sync_store(&mut self) -> Result<(), NextFault>
+        ensures ok { OnOk result (has_store self.new ≡ has_store self.old) }
+        ensures waits { OnOk result (waits_for_disk self.new ≡ true → waits_for_disk self.old ≡ true) }
+        ensures err { OnErr result (StoreFailed self.new) }
+        ensures failed { StoreFailed self.old → result ≡ Err NextFault.Failed }
+        ensures cause { LinkCause None (link_faults self.old) (link_faults self.new) result }
+        ensures refusals { RefusalCause (refused_calls self.old) (refused_calls self.new) result }
+        ensures lost { NeverFalls (lost_connections self.old) (lost_connections self.new) }
+    {
         if !self.store.awaits_disk() || (self.sockets.have_some() && self.store.put_off()) {
             return Ok(());
         }
-        if self.store.sync().is_ok() {
-            self.sockets.let_go();
-            return Ok(());
+        match self.store.sync() {
+            Ok(()) => {
+                self.sockets.let_go();
+                Ok(())
+            }
+            Err(_) => {
+                self.faults = raised(self.faults);
+                Err(NextFault::Failed)
+            }
         }
-        self.faults = raised(self.faults);
-        Err(NextFault::Failed)
     }
 
     /// Waits for the next event; Stop once as many connections ended as there were to be sessions. While the
     /// disk is waited for, Idle comes at once where there is no event.
     #[tactic(auto, unfolding(wire_io::specs::link::Telling::NextTells, wire_io::specs::Playing::NextPlays, wire_io::specs::Answers::LinkCause, wire_io::specs::Answers::RefusalCause, wire_io::specs::Answers::IsPlanned))]
-    fn next(&mut self, buf: &mut [u8]) -> Result<Heard, NextFault> {
+    fn next(&mut self, buf: &mut [u8]) -> Result<Heard, NextFault>
+        requires { 0 < length buf.old }
+        ensures fits { IfOk result (HeardFits (length buf.new)) }
+        ensures tells { NextTells None buf.new result None }
+        ensures plays { NextPlays None None buf.new result None }
+        ensures cause { LinkCause None (link_faults self.old) (link_faults self.new) result }
+        ensures refusals { RefusalCause (refused_calls self.old) (refused_calls self.new) result }
+        ensures lost { NeverFalls (lost_connections self.old) (lost_connections self.new) }
+        ensures store { StoreStays self.old self.new }
+    {
         if self.sockets.are_done() {
             return Ok(Heard::Stop);
         }
@@ -184,7 +250,16 @@ impl<R: Net + Clock + Files<File = File>> Link for MioLink<R> {
     /// all that was stored none are taken, and after a fault of the store none any more: Later then, and once
     /// the disk has it Ready, where the connection is on hold.
     #[tactic(auto, unfolding(wire_io::specs::link::Telling::TookTells, wire_io::specs::Answers::WriteCause, wire_io::specs::Answers::WriteRefusal, wire_io::specs::Answers::IsPlanned))]
-    fn write(&mut self, conn: u32, bytes: &[u8]) -> Took {
+    fn write(&mut self, conn: u32, bytes: &[u8]) -> Took
+        requires { 0 < length bytes.now }
+        ensures later { waits_for_disk self.old ≡ true → result ≡ Took.Later }
+        ensures fits { TookFits (length bytes.now) result }
+        ensures tells { TookTells None conn bytes.now result None }
+        ensures cause { WriteCause None (lost_connections self.old) (lost_connections self.new) result }
+        ensures refusals { WriteRefusal (refused_calls self.old) (refused_calls self.new) result }
+        ensures faults { link_faults self.new ≡ link_faults self.old }
+        ensures store { StoreStays self.old self.new }
+    {
         let took = self.offer(conn, bytes);
         match took {
             Took::Gone => self.lost = raised(self.lost),
@@ -195,19 +270,37 @@ impl<R: Net + Clock + Files<File = File>> Link for MioLink<R> {
     }
 
     #[tactic(auto, unfolding(wire_io::specs::link::Telling::NoteTells, wire_io::specs::Answers::NoteRefusal))]
-    fn hold(&mut self, conn: u32) -> Result<(), NoMemory> {
+    fn hold(&mut self, conn: u32) -> Result<(), NoMemory>
+        ensures tells { NoteTells None (Item.Held conn) result None }
+        ensures refusals { NoteRefusal (refused_calls self.old) (refused_calls self.new) result }
+        ensures faults { link_faults self.new ≡ link_faults self.old }
+        ensures lost { NeverFalls (lost_connections self.old) (lost_connections self.new) }
+        ensures store { StoreStays self.old self.new }
+    {
         self.sockets.set_on_hold(conn, true);
         Ok(())
     }
 
     #[tactic(auto, unfolding(wire_io::specs::link::Telling::NoteTells, wire_io::specs::Answers::NoteRefusal))]
-    fn release(&mut self, conn: u32) -> Result<(), NoMemory> {
+    fn release(&mut self, conn: u32) -> Result<(), NoMemory>
+        ensures tells { NoteTells None (Item.Released conn) result None }
+        ensures refusals { NoteRefusal (refused_calls self.old) (refused_calls self.new) result }
+        ensures faults { link_faults self.new ≡ link_faults self.old }
+        ensures lost { NeverFalls (lost_connections self.old) (lost_connections self.new) }
+        ensures store { StoreStays self.old self.new }
+    {
         self.sockets.set_on_hold(conn, false);
         Ok(())
     }
 
     #[tactic(auto, unfolding(wire_io::specs::link::Telling::NoteTells, wire_io::specs::Answers::NoteRefusal))]
-    fn hang_up(&mut self, conn: u32) -> Result<(), NoMemory> {
+    fn hang_up(&mut self, conn: u32) -> Result<(), NoMemory>
+        ensures tells { NoteTells None (Item.HungUp conn) result None }
+        ensures refusals { NoteRefusal (refused_calls self.old) (refused_calls self.new) result }
+        ensures faults { link_faults self.new ≡ link_faults self.old }
+        ensures lost { NeverFalls (lost_connections self.old) (lost_connections self.new) }
+        ensures store { StoreStays self.old self.new }
+    {
         self.sockets.hang_up(conn);
         Ok(())
     }

@@ -1,6 +1,6 @@
 //! The file to which octets are appended that have to last.
 
-ghost use Rattle.std.specs.Prelude.{◌≡◌, true, false, IfSome, OnErr, OnOk};
+ghost use Rattle.std.specs.Prelude.{◌≡◌, ◌≢◌, true, false, Err, IfSome, OnErr, OnOk};
 ghost use Rattle.mio_link.specs.Store.{is_open, awaits_disk};
 
 use std::fs::{File, OpenOptions};
@@ -11,6 +11,7 @@ use std::os::unix::fs::OpenOptionsExt;
 use std::path::Path;
 use std::rt::Files;
 use std::{fs, io};
+use wire_io::NextFault;
 
 /// Who may read and write a file that is made: its owner.
 const OWNER_ALONE: u32 = 0o600;
@@ -38,30 +39,46 @@ pub(crate) enum Store {
 impl Store {
     /// Opens the file of the name, or makes one that its owner alone may read and write; locks it, and has it
     /// and its folder on the disk. A store opens once. Want of memory is told only where no file was open yet,
-    /// and then nothing was done; after every other error the store has failed. A file that another process
-    /// has locked is an error.
-    pub(crate) fn open<R: Files<File = File>>(&mut self, rt: &R, name: &str) -> io::Result<()>
-        ensures once { OnOk result (self.old ≡ Store.Unopened) }
+    /// and then nothing was done; after a fault the store has failed. A file that another process has locked
+    /// is a fault.
+    pub(crate) fn open<R: Files<File = File>>(
+        &mut self,
+        rt: &R,
+        name: &str,
+    ) -> Result<(), NextFault>
         ensures ok { OnOk result (is_open self.new ≡ true) }
-        ensures failed { self.old ≡ Store.Failed → self.new ≡ Store.Failed }
+        ensures fault { result ≡ Err NextFault.Failed → self.new ≡ Store.Failed }
+        ensures memory { result ≡ Err NextFault.NoMemory → self.new ≡ self.old }
+        ensures once { self.old ≢ Store.Unopened → result ≡ Err NextFault.Failed }
     {
         let Store::Unopened = self else {
-            return Err(self.fail());
+            self.fail();
+            return Err(NextFault::Failed);
         };
         match opened(rt, name) {
             Ok(file) => self.hold(rt, file, name),
-            Err(error) if error.kind() == ErrorKind::OutOfMemory => Err(error),
-            Err(_) => Err(self.fail()),
+            Err(error) if error.kind() == ErrorKind::OutOfMemory => Err(NextFault::NoMemory),
+            Err(_) => {
+                self.fail();
+                Err(NextFault::Failed)
+            }
         }
     }
 
     /// Appends to this file from now on, once it is locked.
-    fn hold<R: Files<File = File>>(&mut self, rt: &R, file: File, name: &str) -> io::Result<()>
+    fn hold<R: Files<File = File>>(
+        &mut self,
+        rt: &R,
+        file: File,
+        name: &str,
+    ) -> Result<(), NextFault>
         ensures ok { OnOk result (is_open self.new ≡ true) }
-        ensures err { OnErr result (self.new ≡ Store.Failed) }
+        ensures fault { OnErr result (self.new ≡ Store.Failed) }
+        ensures memory { result ≢ Err NextFault.NoMemory }
     {
         if lock(&file).is_err() || sync_folder(rt, name).is_err() {
-            return Err(self.fail());
+            self.fail();
+            return Err(NextFault::Failed);
         }
         *self = Store::Open(file);
         Ok(())
@@ -125,6 +142,7 @@ impl Store {
         ensures open { is_open self.new ≡ is_open self.old }
         ensures kept { awaits_disk self.new ≡ awaits_disk self.old }
         ensures awaited { result ≡ true → awaits_disk self.new ≡ true }
+        ensures failed { self.old ≡ Store.Failed → (result ≡ false) × (self.new ≡ Store.Failed) }
     {
         if let Store::Pending { put_off, .. } = self {
             if *put_off < MOST_PUT_OFF {
@@ -139,6 +157,7 @@ impl Store {
     /// failed is an error again, and after an error the store has failed.
     pub(crate) fn sync(&mut self) -> io::Result<()>
         ensures ok { OnOk result (awaits_disk self.new ≡ false) }
+        ensures only { OnOk result (self.old ≢ Store.Failed) }
         ensures kept { OnOk result (is_open self.new ≡ is_open self.old) }
         ensures err { OnErr result (self.new ≡ Store.Failed) }
     {
