@@ -5,7 +5,7 @@ ghost use Rattle.std.specs.List.{slice_rotate_right};
 ghost use Rattle.ber_elements.specs.write.Element.{IsTag};
 ghost use Rattle.ber_elements.specs.Integer.{int_octets};
 ghost use Rattle.ber_layout.specs.components.Flags.{flag_octets};
-ghost use Rattle.ber_layout.specs.Layouts.{writes};
+ghost use Rattle.ber_layout.specs.Layouts.{IsShort, writes};
 ghost use Rattle.ber_layout.specs.Layouts.Layout.{AnyOctets, End, Each};
 ghost use Rattle.ber_layout.specs.Spellings.{Extends, element_octets, optional_octets, marked_octets, each_octets};
 
@@ -61,6 +61,8 @@ pub fn enclose(out: &mut Vec<u8>, tag: u8, start: usize) -> Result<(), NoMemory>
     requires tag { IsTag tag }
     requires start { start ≤ length out.old.items }
     ensures ok { OnOk result (out.new.items ≡ take start out.old.items ++ element_octets tag (drop start out.old.items)) }
+    // What was enclosed has a length that can be written.
+    ensures short { OnOk result (IsShort (drop start out.old.items)) }
     ensures err { OnErr result (out.new.items ≡ out.old.items) }
 {
     let whole = out.len();
@@ -73,11 +75,13 @@ pub fn enclose(out: &mut Vec<u8>, tag: u8, start: usize) -> Result<(), NoMemory>
     Ok(())
 }
 
-/// Appends an element of these octets.
+/// Appends an element of these octets. The error comes where memory is wanted, or they are 2^32 or
+/// more; `out` has then what it had, and may have more.
 #[tactic(auto, unfolding(crate::specs::Spellings::element_octets))]
 pub fn put_element(out: &mut Vec<u8>, tag: u8, content: &[u8]) -> Result<(), NoMemory>
     requires { IsTag tag }
     ensures ok { OnOk result (out.new.items ≡ out.old.items ++ element_octets tag content.now) }
+    ensures short { OnOk result (IsShort content.now) }
     ensures kept { Extends out.old.items out.new.items }
 {
     if content.len() >= 4_294_967_296 {
