@@ -54,11 +54,11 @@ Says Flag value bytes = IsFlag value bytes
 Says End value bytes = bytes ≡ []
 Says Further value bytes = IsFurther any_tag bytes
 Says (FurtherBut tag) value bytes = IsFurther (other_than tag) bytes
-Says (AnyElement next) value bytes = Follows value.0.0 (λ content. value.0.1 ≡ content) (Says next value.1) bytes
-Says (Then tag inner next) value bytes = Follows tag (Says inner value.0) (Says next value.1) bytes
-Says (Maybe tag inner next) value bytes = MayFollow tag (Says inner) (Says next value.1) value.0 bytes
-Says (Marked tag next) value bytes = MarkFollows tag (Says next value.1) value.0 bytes
-Says (Each tag inner next) value bytes = EachFollows tag (Says inner) (Says next value.1) value.0 bytes
+Says (AnyElement next) ((tag, value), rest) bytes = Follows tag (λ content. value ≡ content) (Says next rest) bytes
+Says (Then tag inner next) (value, rest) bytes = Follows tag (Says inner value) (Says next rest) bytes
+Says (Maybe tag inner next) (value, rest) bytes = MayFollow tag (Says inner) (Says next rest) value bytes
+Says (Marked tag next) (value, rest) bytes = MarkFollows tag (Says next rest) value bytes
+Says (Each tag inner next) (values, rest) bytes = EachFollows tag (Says inner) (Says next rest) values bytes
 
 -- what is made of the value that the octets say, if they say one
 unfoldable pub reads_into : {B : Type 0} (l : Layout) → (Value l → Option B) → List ℕ → Option B
@@ -93,11 +93,11 @@ writes Flag value = flag_octets value
 writes End value = []
 writes Further value = []
 writes (FurtherBut tag) value = []
-writes (AnyElement next) value = element_octets value.0.0 value.0.1 ++ writes next value.1
-writes (Then tag inner next) value = element_octets tag (writes inner value.0) ++ writes next value.1
-writes (Maybe tag inner next) value = optional_octets tag (writes inner) value.0 ++ writes next value.1
-writes (Marked tag next) value = marked_octets tag value.0 ++ writes next value.1
-writes (Each tag inner next) value = each_octets tag (writes inner) value.0 ++ writes next value.1
+writes (AnyElement next) ((tag, content), rest) = element_octets tag content ++ writes next rest
+writes (Then tag inner next) (value, rest) = element_octets tag (writes inner value) ++ writes next rest
+writes (Maybe tag inner next) (value, rest) = optional_octets tag (writes inner) value ++ writes next rest
+writes (Marked tag next) (value, rest) = marked_octets tag value ++ writes next rest
+writes (Each tag inner next) (values, rest) = each_octets tag (writes inner) values ++ writes next rest
 
 -- the content of an element has a length that can be written
 abbrev pub IsShort : List ℕ → Type 0
@@ -118,11 +118,11 @@ Fits Flag value = Unit {0}
 Fits End value = Unit {0}
 Fits Further value = Unit {0}
 Fits (FurtherBut tag) value = Unit {0}
-Fits (AnyElement next) value = (IsTag value.0.0 × IsShort value.0.1) × Fits next value.1
-Fits (Then tag inner next) value = (Fits inner value.0 × IsShort (writes inner value.0)) × Fits next value.1
-Fits (Maybe tag inner next) value = MayFit (λ part. Fits inner part × IsShort (writes inner part)) value.0 × Fits next value.1
-Fits (Marked tag next) value = Fits next value.1
-Fits (Each tag inner next) value = AllByRecursion (λ part. Fits inner part × IsShort (writes inner part)) value.0 × Fits next value.1
+Fits (AnyElement next) ((tag, content), rest) = (IsTag tag × IsShort content) × Fits next rest
+Fits (Then tag inner next) (value, rest) = (Fits inner value × IsShort (writes inner value)) × Fits next rest
+Fits (Maybe tag inner next) (value, rest) = MayFit (λ part. Fits inner part × IsShort (writes inner part)) value × Fits next rest
+Fits (Marked tag next) (value, rest) = Fits next rest
+Fits (Each tag inner next) (values, rest) = AllByRecursion (λ part. Fits inner part × IsShort (writes inner part)) values × Fits next rest
 
 -- ---- layouts that can be read in one way
 
