@@ -9,7 +9,7 @@ use Rattle.ldap_filter.specs.filter.Filters.Filter.{And, Or, Not, Equal, Parts, 
 use Rattle.ldap_filter.specs.filter.Filters.Filters.{Nil, Cons}
 use Rattle.ldap_filter.specs.Assertion.{assertion_layout}
 use Rattle.ldap_filter.specs.reading.FilterLayouts.{parts_layout, IsSome, SaysFilter, SaysFilters, IsFilter, most_deep}
-use Rattle.ldap_filter.specs.reading.FilterReading.{substrings_from, all_of, level_of, filter_at, filter_of}
+use Rattle.ldap_filter.specs.reading.FilterReading.{asserted_from, substrings_from, parts_from, all_of, level_of, filter_at, filter_of}
 use Rattle.ldap_filter.proofs.reading.JoinedLemmas.{all_step, all_done}
 
 -- each filter is at least 1 deep
@@ -47,9 +47,9 @@ right_less : (a b deep : ℕ) → max a b ≤ deep → b ≤ deep
 right_less a b deep h = omega arith
 
 asserted_again : (make : List ℕ → List ℕ → Filter) (kind value : List ℕ) (content : List ℕ) → SaysLayout assertion_layout (kind, (value, tt)) content
-    → (reads assertion_layout content >>= λ (parts : Value assertion_layout). Some (make parts.0 parts.1.0)) ≡ Some (make kind value)
+    → (reads assertion_layout content >>= λ (parts : Value assertion_layout). Some (asserted_from make parts)) ≡ Some (make kind value)
 asserted_again make kind value content says =
-    ap (λ (o : Option (Value assertion_layout)). o >>= λ (parts : Value assertion_layout). Some (make parts.0 parts.1.0)) (reads_complete assertion_layout (kind, (value, tt)) content refl says)
+    ap (λ (o : Option (Value assertion_layout)). o >>= λ (parts : Value assertion_layout). Some (asserted_from make parts)) (reads_complete assertion_layout (kind, (value, tt)) content refl says)
 
 mutual
   pub filter_again : (f : Filter) (deep : ℕ) (element : ℕ × List ℕ) → SaysFilter f element → depth f ≤ deep → filter_at deep element ≡ Some f
@@ -72,7 +72,7 @@ mutual
       lift (Equal kind value) deep element within (λ below is. ap (λ (t : ℕ). level_of (filter_at below) (t, element.1)) says.0 ∙ asserted_again (λ k v. Equal k v) kind value element.1 says.1)
   filter_again (Parts kind initial any final) deep element says within =
       lift (Parts kind initial any final) deep element within (λ below is. ap (λ (t : ℕ). level_of (filter_at below) (t, element.1)) says.0
-      ∙ ap (λ (o : Option (Value parts_layout)). o >>= λ (parts : Value parts_layout). substrings_from parts.0 parts.1.0.0 parts.1.0.1.0 parts.1.0.1.1.0)
+      ∙ ap (λ (o : Option (Value parts_layout)). o >>= parts_from)
       (reads_complete parts_layout (kind, ((initial, (any, (final, tt))), tt)) element.1 refl says.1.1)
       ∙ some_parts kind initial any final says.1.0)
   filter_again (AtLeast kind value) deep element says within =

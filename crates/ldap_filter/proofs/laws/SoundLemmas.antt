@@ -12,7 +12,7 @@ use Rattle.ldap_filter.specs.filter.Filters.Filter.{And, Or, Not, Equal, Parts, 
 use Rattle.ldap_filter.specs.filter.Filters.Filters.{Nil, Cons}
 use Rattle.ldap_filter.specs.Assertion.{assertion_layout}
 use Rattle.ldap_filter.specs.reading.FilterLayouts.{parts_layout, IsSome, SaysFilter, SaysFilters, IsFilter, most_deep}
-use Rattle.ldap_filter.specs.reading.FilterReading.{asserted, substrings_from, parts_in, item_of, all_from, all_of, only_of, level_of, filter_at, filter_of}
+use Rattle.ldap_filter.specs.reading.FilterReading.{asserted, asserted_from, substrings_from, parts_from, parts_in, item_of, all_from, all_of, only_of, level_of, filter_at, filter_of}
 
 none_is : (x y : Filters) → Some x ≡ Some y → x ≡ y
 none_is x y e = cc
@@ -50,7 +50,7 @@ pick tag k here rest f G e is others = pick_by (eqb tag k) tag k here rest f G r
 asserted_by : (make : List ℕ → List ℕ → Filter) (element : ℕ × List ℕ) (f : Filter) → asserted make element.1 ≡ Some f
     → ((kind value : List ℕ) → SaysLayout assertion_layout (kind, (value, tt)) element.1 → Sounds 1 (make kind value) element) → Sounds 1 f element
 asserted_by make element f e sounds =
-    let a = bind_some (reads assertion_layout element.1) (λ (parts : Value assertion_layout). Some (make parts.0 parts.1.0)) f e in
+    let a = bind_some (reads assertion_layout element.1) (λ (parts : Value assertion_layout). Some (asserted_from make parts)) f e in
     subst (λ (g : Filter). Sounds 1 g element) (same_Some (make a.0.0 a.0.1.0) f a.2) (sounds a.0.0 a.0.1.0 (reads_sound assertion_layout a.0 element.1 a.1))
 
 parts_by : (kind : List ℕ) (initial : Option (List ℕ)) (any : List (List ℕ)) (final : Option (List ℕ)) (element : ℕ × List ℕ) (f : Filter)
@@ -65,7 +65,7 @@ parts_by kind None (first ∷ any) None element f tag says e =
 
 parts_sound : (element : ℕ × List ℕ) (f : Filter) → element.0 ≡ 0xa4 → parts_in element.1 ≡ Some f → Sounds 1 f element
 parts_sound element f tag e =
-    let a = bind_some (reads parts_layout element.1) (λ (parts : Value parts_layout). substrings_from parts.0 parts.1.0.0 parts.1.0.1.0 parts.1.0.1.1.0) f e in
+    let a = bind_some (reads parts_layout element.1) parts_from f e in
     parts_by a.0.0 a.0.1.0.0 a.0.1.0.1.0 a.0.1.0.1.1.0 element f tag (reads_sound parts_layout a.0 element.1 a.1) a.2
 
 item_sound : (element : ℕ × List ℕ) (f : Filter) → item_of element.0 element.1 ≡ Some f → Sounds 1 f element

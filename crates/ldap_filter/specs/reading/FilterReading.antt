@@ -9,9 +9,12 @@ use Rattle.ldap_filter.specs.filter.Filters.Filters.{Nil, Cons}
 use Rattle.ldap_filter.specs.Assertion.{assertion_layout}
 use Rattle.ldap_filter.specs.reading.FilterLayouts.{parts_layout, most_deep}
 
--- what is made of an assertion
+-- what is made of the parts of an assertion
+abbrev pub asserted_from : (List ℕ → List ℕ → Filter) → Value assertion_layout → Filter
+asserted_from make (kind, (value, _)) = make kind value
+
 abbrev pub asserted : (List ℕ → List ℕ → Filter) → List ℕ → Option Filter
-asserted make content = reads assertion_layout content >>= λ parts. Some (make parts.0 parts.1.0)
+asserted make content = reads assertion_layout content >>= λ parts. Some (asserted_from make parts)
 
 -- substrings, of which there is at least one
 abbrev pub substrings_from : List ℕ → Option (List ℕ) → List (List ℕ) → Option (List ℕ) → Option Filter
@@ -20,8 +23,11 @@ substrings_from kind None any (Some final) = Some (Parts kind None any (Some fin
 substrings_from kind None [] None = None
 substrings_from kind None (first ∷ any) None = Some (Parts kind None (first ∷ any) None)
 
+abbrev pub parts_from : Value parts_layout → Option Filter
+parts_from (kind, ((initial, (any, (final, _))), _)) = substrings_from kind initial any final
+
 abbrev pub parts_in : List ℕ → Option Filter
-parts_in content = reads parts_layout content >>= λ parts. substrings_from parts.0 parts.1.0.0 parts.1.0.1.0 parts.1.0.1.1.0
+parts_in content = reads parts_layout content >>= parts_from
 
 -- the items by their tags
 abbrev pub item_of : ℕ → List ℕ → Option Filter
@@ -52,11 +58,11 @@ only_of reader bytes = any_of bytes >>= λ found. (if length found.rest == 0 the
 
 -- a filter whose members the reader reads
 abbrev pub level_of : (ℕ × List ℕ → Option Filter) → ℕ × List ℕ → Option Filter
-level_of reader element =
-    if element.0 == 0xa0 then (all_of reader element.1 >>= λ members. Some (And members))
-    else if element.0 == 0xa1 then (all_of reader element.1 >>= λ members. Some (Or members))
-    else if element.0 == 0xa2 then (only_of reader element.1 >>= λ member. Some (Not member))
-    else item_of element.0 element.1
+level_of reader (tag, content) =
+    if tag == 0xa0 then (all_of reader content >>= λ members. Some (And members))
+    else if tag == 0xa1 then (all_of reader content >>= λ members. Some (Or members))
+    else if tag == 0xa2 then (only_of reader content >>= λ member. Some (Not member))
+    else item_of tag content
 
 -- a filter that is at most so deep
 unfoldable pub filter_at : ℕ → ℕ × List ℕ → Option Filter
