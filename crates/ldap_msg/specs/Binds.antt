@@ -14,11 +14,11 @@ bind_layout = Then 0x02 (Number 1 127) (Then 0x04 AnyOctets (AnyElement Further)
 
 -- AuthenticationChoice ::= CHOICE { simple [0] OCTET STRING, ... }
 abbrev pub auth_from : ℕ × List ℕ → Auth
-auth_from element = if element.0 == 0x80 then Simple element.1 else Other element.0
+auth_from (tag, content) = if tag == 0x80 then Simple content else Other tag
 
 -- the bind request of these parts
 abbrev pub bind_from : Value bind_layout → BindRequest
-bind_from parts = record { version = parts.0; name = parts.1.0; auth = auth_from parts.1.1.0 }
+bind_from (version, (name, (authentication, _))) = record { version = version; name = name; auth = auth_from authentication }
 
 -- the bind request that a content says
 abbrev pub bind_of : List ℕ → Option BindRequest

@@ -12,7 +12,7 @@ abbrev pub control_parts : Control → Value control_layout
 control_parts control = (control.kind, (control.critical, (control.value, tt)))
 
 abbrev pub control_from : Value control_layout → Control
-control_from parts = record { kind = parts.0; critical = parts.1.0; value = parts.1.1.0 }
+control_from (kind, (critical, (value, _))) = record { kind = kind; critical = critical; value = value }
 
 -- Controls ::= SEQUENCE OF control Control
 abbrev pub controls_layout : Layout
@@ -21,7 +21,7 @@ controls_layout = Each 0x30 control_layout End
 -- absent controls are none
 abbrev pub controls_from : Option (Value controls_layout) → List Control
 controls_from None = []
-controls_from (Some parts) = map control_from parts.0
+controls_from (Some (controls, _)) = map control_from controls
 
 -- no controls are absent
 abbrev pub controls_parts : List Control → Option (Value controls_layout)

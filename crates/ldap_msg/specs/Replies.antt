@@ -15,6 +15,7 @@ use Rattle.ldap_msg.specs.Attributes.{attribute_from}
 use Rattle.ldap_msg.specs.Results.{result_layout, result_parts, result_from, entry_layout, entry_parts, answered_layout, answered_parts}
 use Rattle.ldap_msg.specs.Controls.{controls_layout}
 use Rattle.ldap_msg.specs.reading.Contents.{SaysBy}
+use Rattle.ldap_msg.specs.reading.Messages.{id_part, tag_part, content_part}
 
 -- LDAPMessage, whose messageID may be 0 in a reply (4.4)
 abbrev pub reply_layout : Layout
@@ -32,10 +33,18 @@ response_for (reply.Rename result) = response.Rename
 response_for (reply.Compare result) = response.Compare
 response_for (reply.Extended result name value) = response.Extended
 
+-- the reply of an entry's parts
+abbrev pub entry_from : Value entry_layout → Reply
+entry_from (name, ((attributes, _), _)) = reply.Entry name (map attribute_from attributes)
+
+-- the reply of the parts of what an extended operation answers
+abbrev pub answered_from : Value answered_layout → Reply
+answered_from (code, (matched, (_, (name, (value, _))))) = reply.Extended (record { code = code; matched = matched }) name value
+
 -- the content of its element says the reply
 abbrev pub SaysReply : Reply → List ℕ → Type 0
 SaysReply (reply.Bind result) content = SaysLayout result_layout (result_parts result) content
-SaysReply (reply.Entry name attributes) content = SaysBy entry_layout (λ parts. reply.Entry parts.0 (map attribute_from parts.1.0.0)) (reply.Entry name attributes) content
+SaysReply (reply.Entry name attributes) content = SaysBy entry_layout entry_from (reply.Entry name attributes) content
 SaysReply (reply.Done result) content = SaysLayout result_layout (result_parts result) content
 SaysReply (reply.Modify result) content = SaysLayout result_layout (result_parts result) content
 SaysReply (reply.Add result) content = SaysLayout result_layout (result_parts result) content
@@ -44,13 +53,13 @@ SaysReply (reply.Rename result) content = SaysLayout result_layout (result_parts
 SaysReply (reply.Compare result) content = SaysLayout result_layout (result_parts result) content
 SaysReply (reply.Extended result name value) content = SaysLayout answered_layout (answered_parts result name value) content
 
--- the content of its element says the reply with this messageID
+-- the content of its element says the reply with this messageID; its parts are those that a request's message has
 pub record SaysIn (answer : ℕ × Reply) (content : List ℕ) : Type 0 where
   pub parts : Value reply_layout
   pub says : SaysLayout reply_layout parts content
-  pub id : parts.0 ≡ answer.0
-  pub tag : parts.1.0.0 ≡ response_tag (response_for answer.1)
-  pub reply : SaysReply answer.1 parts.1.0.1
+  pub id : id_part parts ≡ answer.0
+  pub tag : tag_part parts ≡ response_tag (response_for answer.1)
+  pub reply : SaysReply answer.1 (content_part parts)
 
 -- the octets say the reply with this messageID
 abbrev pub Replies : ℕ → Reply → List ℕ → Type 0
@@ -65,23 +74,22 @@ ended_in make content = reads result_layout content >>= λ parts. Some (make (re
 -- the reply of a response that a content says
 abbrev pub reply_in : Response → List ℕ → Option Reply
 reply_in response.Bind content = ended_in reply.Bind content
-reply_in response.Entry content = reads entry_layout content >>= λ parts. Some (reply.Entry parts.0 (map attribute_from parts.1.0.0))
+reply_in response.Entry content = reads entry_layout content >>= λ parts. Some (entry_from parts)
 reply_in response.Done content = ended_in reply.Done content
 reply_in response.Modify content = ended_in reply.Modify content
 reply_in response.Add content = ended_in reply.Add content
 reply_in response.Delete content = ended_in reply.Delete content
 reply_in response.Rename content = ended_in reply.Rename content
 reply_in response.Compare content = ended_in reply.Compare content
-reply_in response.Extended content =
-    reads answered_layout content >>= λ parts. Some (reply.Extended (record { code = parts.0; matched = parts.1.0 }) parts.1.1.1.0 parts.1.1.1.1.0)
+reply_in response.Extended content = reads answered_layout content >>= λ parts. Some (answered_from parts)
 
 -- the reply that a tag and a content say
 abbrev pub reply_at : ℕ × List ℕ → Option Reply
-reply_at element = response_of element.0 >>= λ response. reply_in response element.1
+reply_at (tag, content) = response_of tag >>= λ response. reply_in response content
 
 -- the messageID and the reply of these parts
 abbrev pub answer_from : Value reply_layout → Option (ℕ × Reply)
-answer_from parts = reply_at parts.1.0 >>= λ answer. Some (parts.0, answer)
+answer_from (id, (response, _)) = reply_at response >>= λ answer. Some (id, answer)
 
 -- the messageID and the reply that a content says
 unfoldable pub answer_in : List ℕ → Option (ℕ × Reply)

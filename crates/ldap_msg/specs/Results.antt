@@ -18,7 +18,7 @@ abbrev pub result_parts : LdapResult → Value result_layout
 result_parts result = (result.code, (result.matched, (tt, tt)))
 
 abbrev pub result_from : Value result_layout → LdapResult
-result_from parts = record { code = parts.0; matched = parts.1.0 }
+result_from (code, (matched, _)) = record { code = code; matched = matched }
 
 -- SearchResultEntry ::= [APPLICATION 4] SEQUENCE { objectName LDAPDN, attributes PartialAttributeList }
 abbrev pub entry_layout : Layout

@@ -1,5 +1,5 @@
 -- A request that is read of a content is the one that the content says, and the one that it says is read.
-use Rattle.std.proofs.Common.{◌≡◌, ℕ, Bool, true, false, cond, eqb, List, Option, Some, None, refl, sym, ap, subst, ◌∙◌}
+use Rattle.std.proofs.Common.{◌≡◌, ℕ, Bool, true, false, cond, eqb, List, Option, Some, refl, ap, subst, ◌∙◌}
 use Rattle.std.proofs.lemmas.Bool.{eqb-true}
 use Rattle.std.proofs.lemmas.Option.{same_Some}
 use Rattle.ber_layout.specs.element.Pieces.{◌>>=◌}
@@ -17,7 +17,7 @@ use Rattle.ldap_msg.specs.Kinds.{modify_layout, modify_from, add_layout, add_fro
 use Rattle.ldap_msg.specs.declared.kinds.SearchRequest.{SearchRequest}
 use Rattle.ldap_msg.specs.Search.{search_of}
 use Rattle.ldap_msg.proofs.search.SearchLemmas.{search_sound, search_again}
-use Rattle.ldap_msg.specs.reading.Contents.{SaysBy, operation_for, SaysContent, request_in}
+use Rattle.ldap_msg.specs.reading.Contents.{operation_for, SaysContent, extended_from, request_in}
 
 -- the content says the request, which is of the operation
 pub record Sounds (is : Request) (asked : Operation) (content : List ℕ) : Type 0 where
@@ -58,7 +58,7 @@ request_sound operation.Compare content is e =
 request_sound operation.Abandon content is e =
     by_reads abandon_layout (λ id. request.Abandon id) operation.Abandon content is e (λ parts says. record { operation = refl; says = says })
 request_sound operation.Extended content is e =
-    by_reads extended_layout (λ parts. request.Extended parts.0 parts.1.0) operation.Extended content is e (λ parts says. record { operation = refl; says = says })
+    by_reads extended_layout extended_from operation.Extended content is e (λ parts says. record { operation = refl; says = says })
 
 -- what is made of parts that stand there
 again : {A : Type 0} (l : Layout) → is_clear l ≡ true → (make : Value l → A) (parts : Value l) (content : List ℕ) → SaysLayout l parts content
@@ -79,7 +79,7 @@ request_again (request.Delete delete) content says = again AnyOctets refl (λ na
 request_again (request.Rename rename) content says = again rename_layout refl (λ parts. request.Rename (rename_from parts)) (rename_parts rename) content says
 request_again (request.Compare compare) content says = again compare_layout refl (λ parts. request.Compare (compare_from parts)) (compare_parts compare) content says
 request_again (request.Abandon id) content says = again abandon_layout refl (λ number. request.Abandon number) id content says
-request_again (request.Extended name value) content says = again extended_layout refl (λ parts. request.Extended parts.0 parts.1.0) (name, (value, tt)) content says
+request_again (request.Extended name value) content says = again extended_layout refl extended_from (name, (value, tt)) content says
 
 -- ---- tags
 

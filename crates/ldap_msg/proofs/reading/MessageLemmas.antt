@@ -1,5 +1,5 @@
 -- A message that is read is the one that the octets say, and the one that they say is read.
-use Rattle.std.proofs.Common.{◌≡◌, ℕ, true, cond, eqb, List, [], length, Option, Some, None, refl, sym, ap, subst, ◌∙◌}
+use Rattle.std.proofs.Common.{◌≡◌, ℕ, cond, eqb, List, [], length, Option, Some, None, refl, sym, ap, subst, ◌∙◌}
 use Rattle.std.proofs.lemmas.Bool.{eqb-true}
 use Rattle.std.proofs.lemmas.List.{nil_from_length}
 use Rattle.std.specs.Prelude.{Result, Ok, Err, IfOk, MatchResult}
@@ -7,7 +7,7 @@ use Rattle.std.proofs.lemmas.Option.{same_Some}
 use Rattle.ber_layout.specs.declared.kinds.ReadFault.{ReadFault}
 use Rattle.ber_layout.specs.declared.kinds.ReadFault.TheVariants.{BadMessage, NoMemory}
 use Rattle.ber_layout.specs.element.Pieces.{◌>>=◌}
-use Rattle.ber_layout.specs.components.Components.{Component, Follows, required_of}
+use Rattle.ber_layout.specs.components.Components.{Component, required_of}
 use Rattle.ber_layout.specs.Layouts.{Value, reads}
 use Rattle.ber_layout.specs.element.Reading.{Gives}
 use Rattle.ber_layout.proofs.Theorems.{bind_some, guard_passed, reads_sound, reads_complete, required_sound, required_again, follows}
@@ -18,7 +18,7 @@ use Rattle.ldap_msg.specs.declared.operations.Operation.{Operation}
 use Rattle.ldap_msg.specs.operations.Operations.{request_tag, operation_of}
 use Rattle.ldap_msg.specs.Controls.{controls_from}
 use Rattle.ldap_msg.specs.reading.Contents.{operation_for, request_in, request_of}
-use Rattle.ldap_msg.specs.reading.Messages.{message_layout, SaysIn, Says, message_from, message_in, message_of}
+use Rattle.ldap_msg.specs.reading.Messages.{message_layout, id_part, tag_part, content_part, controls_part, SaysIn, Says, message_from, message_in, message_of}
 use Rattle.ldap_msg.proofs.reading.ContentLemmas.{request_sound, request_again, operation_tag, operation_again}
 
 -- the content says the message that is read of it
@@ -26,15 +26,15 @@ pub in_sound : (content : List ℕ) (message : Message) → message_in content �
 unfolding message_in
 in_sound content message e =
     let a = bind_some (reads message_layout content) message_from message e in
-    let made : Request → Message = λ (r : Request). record { id = a.0.0; request = r; controls = controls_from a.0.1.1.0 } in
-    let b = bind_some (request_of a.0.1.0) (λ (r : Request). Some (made r)) message a.2 in
-    let c = bind_some (operation_of a.0.1.0.0) (λ (o : Operation). request_in o a.0.1.0.1) b.0 b.1 in
-    let sounds = request_sound c.0 a.0.1.0.1 b.0 c.2 in
+    let made : Request → Message = λ (r : Request). record { id = id_part a.0; request = r; controls = controls_from (controls_part a.0) } in
+    let b = bind_some (request_of (tag_part a.0, content_part a.0)) (λ (r : Request). Some (made r)) message a.2 in
+    let c = bind_some (operation_of (tag_part a.0)) (λ (o : Operation). request_in o (content_part a.0)) b.0 b.1 in
+    let sounds = request_sound c.0 (content_part a.0) b.0 c.2 in
     let says : SaysIn (made b.0) content = record {
       parts = a.0;
       says = reads_sound message_layout a.0 content a.1;
       id = refl;
-      tag = operation_tag a.0.1.0.0 c.0 c.1 ∙ ap request_tag (sym sounds.operation);
+      tag = operation_tag (tag_part a.0) c.0 c.1 ∙ ap request_tag (sym sounds.operation);
       request = sounds.says;
       controls = refl;
     } in
@@ -51,12 +51,12 @@ pub in_again : (message : Message) (content : List ℕ) → SaysIn message conte
 unfolding message_in
 in_again message content says =
     let parts = says.parts in
-    let made : Request → Message = λ (r : Request). record { id = parts.0; request = r; controls = controls_from parts.1.1.0 } in
-    let asked : operation_of parts.1.0.0 ≡ Some (operation_for message.request) = ap operation_of says.tag ∙ operation_again (operation_for message.request) in
+    let made : Request → Message = λ (r : Request). record { id = id_part parts; request = r; controls = controls_from (controls_part parts) } in
+    let asked : operation_of (tag_part parts) ≡ Some (operation_for message.request) = ap operation_of says.tag ∙ operation_again (operation_for message.request) in
     ap (λ (o : Option (Value message_layout)). o >>= message_from) (reads_complete message_layout parts content refl says.says)
-    ∙ ap (λ (o : Option Operation). (o >>= λ (p : Operation). request_in p parts.1.0.1) >>= λ (r : Request). Some (made r)) asked
-    ∙ ap (λ (o : Option Request). o >>= λ (r : Request). Some (made r)) (request_again message.request parts.1.0.1 says.request)
-    ∙ with_fields message parts.0 (controls_from parts.1.1.0) says.id says.controls
+    ∙ ap (λ (o : Option Operation). (o >>= λ (p : Operation). request_in p (content_part parts)) >>= λ (r : Request). Some (made r)) asked
+    ∙ ap (λ (o : Option Request). o >>= λ (r : Request). Some (made r)) (request_again message.request (content_part parts) says.request)
+    ∙ with_fields message (id_part parts) (controls_from (controls_part parts)) says.id says.controls
 
 -- a message that is read is the one that the octets say
 pub message_sound : (bytes : List ℕ) (message : Message) → message_of bytes ≡ Some message → Says message bytes

@@ -1,5 +1,5 @@
 -- A reply's message that is read is the one that the octets say, and the one that they say is read.
-use Rattle.std.proofs.Common.{◌≡◌, ℕ, Bool, true, false, cond, eqb, List, [], length, map, Option, Some, None, refl, sym, ap, subst, ◌∙◌}
+use Rattle.std.proofs.Common.{◌≡◌, ℕ, cond, eqb, List, [], length, Option, Some, None, refl, sym, ap, subst, ◌∙◌}
 use Rattle.std.proofs.lemmas.Bool.{eqb-true}
 use Rattle.std.proofs.lemmas.List.{nil_from_length}
 use Rattle.std.specs.Prelude.{Result, Ok, Err, IfOk, MatchResult}
@@ -7,19 +7,17 @@ use Rattle.std.proofs.lemmas.Option.{same_Some}
 use Rattle.ber_layout.specs.declared.kinds.ReadFault.{ReadFault}
 use Rattle.ber_layout.specs.declared.kinds.ReadFault.TheVariants.{BadMessage, NoMemory}
 use Rattle.ber_layout.specs.element.Pieces.{◌>>=◌}
-use Rattle.ber_layout.specs.components.Components.{Component, Follows, required_of}
-use Rattle.ber_layout.specs.Layouts.{Layout, Value, Says as SaysLayout, reads, is_clear}
+use Rattle.ber_layout.specs.components.Components.{Component, required_of}
+use Rattle.ber_layout.specs.Layouts.{Value, reads}
 use Rattle.ber_layout.specs.element.Reading.{Gives}
 use Rattle.ber_layout.proofs.Theorems.{bind_some, guard_passed, reads_sound, reads_complete, required_sound, required_again, follows}
-use Rattle.ldap_msg.specs.declared.kinds.LdapResult.{LdapResult}
 use Rattle.ldap_msg.specs.declared.kinds.Reply.{Reply}
 use Rattle.ldap_msg.specs.declared.kinds.Reply.TheVariants as reply
 use Rattle.ldap_msg.specs.declared.operations.Response.{Response}
 use Rattle.ldap_msg.specs.declared.operations.Response.TheVariants as response
 use Rattle.ldap_msg.specs.operations.Operations.{response_tag, response_of}
-use Rattle.ldap_msg.specs.Attributes.{attribute_from}
-use Rattle.ldap_msg.specs.Results.{result_layout, result_parts, result_from, entry_layout, answered_layout, answered_parts}
-use Rattle.ldap_msg.specs.Replies.{reply_layout, response_for, SaysReply, SaysIn, Replies, ended_in, reply_in, reply_at, answer_from, answer_in, reply_of}
+use Rattle.ldap_msg.specs.reading.Messages.{id_part, tag_part, content_part}
+use Rattle.ldap_msg.specs.Replies.{reply_layout, response_for, SaysIn, Replies, reply_in, reply_at, answer_from, answer_in, reply_of}
 use Rattle.ldap_msg.proofs.replies.ReplyLemmas.{reply_sound, reply_again, tag_sound, tag_again}
 
 -- the content says the messageID and the reply that are read of it
@@ -27,15 +25,15 @@ pub in_sound : (content : List ℕ) (answer : ℕ × Reply) → answer_in conten
 unfolding answer_in
 in_sound content answer e =
     let a = bind_some (reads reply_layout content) answer_from answer e in
-    let made : Reply → ℕ × Reply = λ (r : Reply). (a.0.0, r) in
-    let b = bind_some (reply_at a.0.1.0) (λ (r : Reply). Some (made r)) answer a.2 in
-    let c = bind_some (response_of a.0.1.0.0) (λ (o : Response). reply_in o a.0.1.0.1) b.0 b.1 in
-    let sounds = reply_sound c.0 a.0.1.0.1 b.0 c.2 in
+    let made : Reply → ℕ × Reply = λ (r : Reply). (id_part a.0, r) in
+    let b = bind_some (reply_at (tag_part a.0, content_part a.0)) (λ (r : Reply). Some (made r)) answer a.2 in
+    let c = bind_some (response_of (tag_part a.0)) (λ (o : Response). reply_in o (content_part a.0)) b.0 b.1 in
+    let sounds = reply_sound c.0 (content_part a.0) b.0 c.2 in
     let says : SaysIn (made b.0) content = record {
       parts = a.0;
       says = reads_sound reply_layout a.0 content a.1;
       id = refl;
-      tag = tag_sound a.0.1.0.0 c.0 c.1 ∙ ap response_tag (sym sounds.response);
+      tag = tag_sound (tag_part a.0) c.0 c.1 ∙ ap response_tag (sym sounds.response);
       reply = sounds.says;
     } in
     subst (λ (m : ℕ × Reply). SaysIn m content) (same_Some (made b.0) answer b.2) says
@@ -45,11 +43,11 @@ pub in_again : (answer : ℕ × Reply) (content : List ℕ) → SaysIn answer co
 unfolding answer_in
 in_again answer content says =
     let parts = says.parts in
-    let made : Reply → ℕ × Reply = λ (r : Reply). (parts.0, r) in
-    let kind : response_of parts.1.0.0 ≡ Some (response_for answer.1) = ap response_of says.tag ∙ tag_again (response_for answer.1) in
+    let made : Reply → ℕ × Reply = λ (r : Reply). (id_part parts, r) in
+    let kind : response_of (tag_part parts) ≡ Some (response_for answer.1) = ap response_of says.tag ∙ tag_again (response_for answer.1) in
     ap (λ (o : Option (Value reply_layout)). o >>= answer_from) (reads_complete reply_layout parts content refl says.says)
-    ∙ ap (λ (o : Option Response). (o >>= λ (p : Response). reply_in p parts.1.0.1) >>= λ (r : Reply). Some (made r)) kind
-    ∙ ap (λ (o : Option Reply). o >>= λ (r : Reply). Some (made r)) (reply_again answer.1 parts.1.0.1 says.reply)
+    ∙ ap (λ (o : Option Response). (o >>= λ (p : Response). reply_in p (content_part parts)) >>= λ (r : Reply). Some (made r)) kind
+    ∙ ap (λ (o : Option Reply). o >>= λ (r : Reply). Some (made r)) (reply_again answer.1 (content_part parts) says.reply)
     ∙ ap (λ (id : ℕ). Some (id, answer.1)) says.id
 
 -- a reply that is read is the one that the octets say

@@ -1,25 +1,17 @@
 -- A reply that is read is the one that the octets say, and the one that they say is read.
-use Rattle.std.proofs.Common.{◌≡◌, ℕ, Bool, true, false, cond, eqb, List, [], length, map, Option, Some, None, refl, sym, ap, subst, ◌∙◌}
+use Rattle.std.proofs.Common.{◌≡◌, ℕ, Bool, true, false, cond, eqb, List, Option, Some, refl, ap, subst, ◌∙◌}
 use Rattle.std.proofs.lemmas.Bool.{eqb-true}
-use Rattle.std.proofs.lemmas.List.{nil_from_length}
-use Rattle.std.specs.Prelude.{Result, Ok, Err, IfOk, MatchResult}
 use Rattle.std.proofs.lemmas.Option.{same_Some}
-use Rattle.ber_layout.specs.declared.kinds.ReadFault.{ReadFault}
-use Rattle.ber_layout.specs.declared.kinds.ReadFault.TheVariants.{BadMessage, NoMemory}
 use Rattle.ber_layout.specs.element.Pieces.{◌>>=◌}
-use Rattle.ber_layout.specs.components.Components.{Component, Follows, required_of}
 use Rattle.ber_layout.specs.Layouts.{Layout, Value, Says as SaysLayout, reads, is_clear}
-use Rattle.ber_layout.specs.element.Reading.{Gives}
-use Rattle.ber_layout.proofs.Theorems.{bind_some, guard_passed, reads_sound, reads_complete, required_sound, required_again, follows}
-use Rattle.ldap_msg.specs.declared.kinds.LdapResult.{LdapResult}
+use Rattle.ber_layout.proofs.Theorems.{bind_some, reads_sound, reads_complete}
 use Rattle.ldap_msg.specs.declared.kinds.Reply.{Reply}
 use Rattle.ldap_msg.specs.declared.kinds.Reply.TheVariants as reply
 use Rattle.ldap_msg.specs.declared.operations.Response.{Response}
 use Rattle.ldap_msg.specs.declared.operations.Response.TheVariants as response
 use Rattle.ldap_msg.specs.operations.Operations.{response_tag, response_of}
-use Rattle.ldap_msg.specs.Attributes.{attribute_from}
 use Rattle.ldap_msg.specs.Results.{result_layout, result_parts, result_from, entry_layout, answered_layout, answered_parts}
-use Rattle.ldap_msg.specs.Replies.{reply_layout, response_for, SaysReply, SaysIn, Replies, ended_in, reply_in, reply_at, answer_from, answer_in, reply_of}
+use Rattle.ldap_msg.specs.Replies.{response_for, entry_from, answered_from, SaysReply, reply_in}
 
 -- the content says the reply, which is of the response
 pub record Sounds (is : Reply) (kind : Response) (content : List ℕ) : Type 0 where
@@ -37,7 +29,7 @@ by_reads l make kind content is e sounds =
 pub reply_sound : (kind : Response) (content : List ℕ) (is : Reply) → reply_in kind content ≡ Some is → Sounds is kind content
 reply_sound response.Bind content is e = by_reads result_layout (λ parts. reply.Bind (result_from parts)) response.Bind content is e (λ parts says. record { response = refl; says = says })
 reply_sound response.Entry content is e =
-    by_reads entry_layout (λ parts. reply.Entry parts.0 (map attribute_from parts.1.0.0)) response.Entry content is e
+    by_reads entry_layout entry_from response.Entry content is e
     (λ parts says. record { response = refl; says = record { parts = parts; says = says; is = refl } })
 reply_sound response.Done content is e = by_reads result_layout (λ parts. reply.Done (result_from parts)) response.Done content is e (λ parts says. record { response = refl; says = says })
 reply_sound response.Modify content is e = by_reads result_layout (λ parts. reply.Modify (result_from parts)) response.Modify content is e (λ parts says. record { response = refl; says = says })
@@ -46,8 +38,7 @@ reply_sound response.Delete content is e = by_reads result_layout (λ parts. rep
 reply_sound response.Rename content is e = by_reads result_layout (λ parts. reply.Rename (result_from parts)) response.Rename content is e (λ parts says. record { response = refl; says = says })
 reply_sound response.Compare content is e = by_reads result_layout (λ parts. reply.Compare (result_from parts)) response.Compare content is e (λ parts says. record { response = refl; says = says })
 reply_sound response.Extended content is e =
-    by_reads answered_layout (λ parts. reply.Extended (record { code = parts.0; matched = parts.1.0 }) parts.1.1.1.0 parts.1.1.1.1.0) response.Extended content is e
-    (λ parts says. record { response = refl; says = says })
+    by_reads answered_layout answered_from response.Extended content is e (λ parts says. record { response = refl; says = says })
 
 -- what is made of parts that stand there
 again : (l : Layout) → is_clear l ≡ true → (make : Value l → Reply) (parts : Value l) (content : List ℕ) → SaysLayout l parts content
@@ -57,15 +48,14 @@ again l clear make parts content says = ap (λ (o : Option (Value l)). o >>= λ 
 pub reply_again : (is : Reply) (content : List ℕ) → SaysReply is content → reply_in (response_for is) content ≡ Some is
 reply_again (reply.Bind result) content says = again result_layout refl (λ parts. reply.Bind (result_from parts)) (result_parts result) content says
 reply_again (reply.Entry name attributes) content says =
-    again entry_layout refl (λ parts. reply.Entry parts.0 (map attribute_from parts.1.0.0)) says.parts content says.says ∙ ap (λ (r : Reply). Some r) says.is
+    again entry_layout refl entry_from says.parts content says.says ∙ ap (λ (r : Reply). Some r) says.is
 reply_again (reply.Done result) content says = again result_layout refl (λ parts. reply.Done (result_from parts)) (result_parts result) content says
 reply_again (reply.Modify result) content says = again result_layout refl (λ parts. reply.Modify (result_from parts)) (result_parts result) content says
 reply_again (reply.Add result) content says = again result_layout refl (λ parts. reply.Add (result_from parts)) (result_parts result) content says
 reply_again (reply.Delete result) content says = again result_layout refl (λ parts. reply.Delete (result_from parts)) (result_parts result) content says
 reply_again (reply.Rename result) content says = again result_layout refl (λ parts. reply.Rename (result_from parts)) (result_parts result) content says
 reply_again (reply.Compare result) content says = again result_layout refl (λ parts. reply.Compare (result_from parts)) (result_parts result) content says
-reply_again (reply.Extended result name value) content says =
-    again answered_layout refl (λ parts. reply.Extended (record { code = parts.0; matched = parts.1.0 }) parts.1.1.1.0 parts.1.1.1.1.0) (answered_parts result name value) content says
+reply_again (reply.Extended result name value) content says = again answered_layout refl answered_from (answered_parts result name value) content says
 
 -- ---- tags
 

@@ -44,6 +44,10 @@ SaysContent (request.Compare compare) content = SaysLayout compare_layout (compa
 SaysContent (request.Abandon id) content = SaysLayout abandon_layout id content
 SaysContent (request.Extended name value) content = SaysLayout extended_layout (name, (value, tt)) content
 
+-- the extended request of these parts
+abbrev pub extended_from : Value extended_layout → Request
+extended_from (name, (value, _)) = request.Extended name value
+
 -- the request of an operation that a content says
 abbrev pub request_in : Operation → List ℕ → Option Request
 request_in operation.Bind content = bind_of content >>= λ bind. Some (request.Bind bind)
@@ -55,11 +59,11 @@ request_in operation.Delete content = reads AnyOctets content >>= λ name. Some 
 request_in operation.Rename content = reads rename_layout content >>= λ parts. Some (request.Rename (rename_from parts))
 request_in operation.Compare content = reads compare_layout content >>= λ parts. Some (request.Compare (compare_from parts))
 request_in operation.Abandon content = reads abandon_layout content >>= λ id. Some (request.Abandon id)
-request_in operation.Extended content = reads extended_layout content >>= λ parts. Some (request.Extended parts.0 parts.1.0)
+request_in operation.Extended content = reads extended_layout content >>= λ parts. Some (extended_from parts)
 
 -- the request that a tag and a content say
 abbrev pub request_of : ℕ × List ℕ → Option Request
-request_of element = operation_of element.0 >>= λ operation. request_in operation element.1
+request_of (tag, content) = operation_of tag >>= λ operation. request_in operation content
 
 -- the written content of a request
 abbrev pub content_octets : Request → List ℕ

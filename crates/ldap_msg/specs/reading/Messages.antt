@@ -18,14 +18,27 @@ use Rattle.ldap_msg.specs.reading.Contents.{operation_for, SaysContent, request_
 abbrev pub message_layout : Layout
 message_layout = Then 0x02 (Number 1 2147483647) (AnyElement (Maybe 0xa0 controls_layout (FurtherBut 0xa0)))
 
+-- the messageID of these parts, the tag and the content of their operation, and their controls
+abbrev pub id_part : Value message_layout → ℕ
+id_part (id, _) = id
+
+abbrev pub tag_part : Value message_layout → ℕ
+tag_part (_, ((tag, _), _)) = tag
+
+abbrev pub content_part : Value message_layout → List ℕ
+content_part (_, ((_, content), _)) = content
+
+abbrev pub controls_part : Value message_layout → Option (Value controls_layout)
+controls_part (_, (_, (controls, _))) = controls
+
 -- the content of its element says the message
 pub record SaysIn (message : Message) (content : List ℕ) : Type 0 where
   pub parts : Value message_layout
   pub says : SaysLayout message_layout parts content
-  pub id : parts.0 ≡ message.id
-  pub tag : parts.1.0.0 ≡ request_tag (operation_for message.request)
-  pub request : SaysContent message.request parts.1.0.1
-  pub controls : controls_from parts.1.1.0 ≡ message.controls
+  pub id : id_part parts ≡ message.id
+  pub tag : tag_part parts ≡ request_tag (operation_for message.request)
+  pub request : SaysContent message.request (content_part parts)
+  pub controls : controls_from (controls_part parts) ≡ message.controls
 
 -- the octets say the message
 abbrev pub Says : Message → List ℕ → Type 0
@@ -35,7 +48,7 @@ Says message bytes = Follows 0x30 (SaysIn message) (λ rest. rest ≡ []) bytes
 
 -- the message of these parts
 abbrev pub message_from : Value message_layout → Option Message
-message_from parts = request_of parts.1.0 >>= λ request. Some (record { id = parts.0; request = request; controls = controls_from parts.1.1.0 })
+message_from (id, (operation, (controls, _))) = request_of operation >>= λ request. Some (record { id = id; request = request; controls = controls_from controls })
 
 -- the message that a content says
 unfoldable pub message_in : List ℕ → Option Message
