@@ -3,7 +3,7 @@ use Rattle.std.specs.Prelude.{◌≡◌, ℕ, List, [], ◌∷◌, length, map, 
 use Rattle.ber_layout.specs.element.Pieces.{◌>>=◌}
 use Rattle.ber_layout.specs.components.Components.{Follows, required_of}
 use Rattle.ber_layout.specs.Spellings.{element_octets}
-use Rattle.ber_layout.specs.Layouts.{Layout, Value, Says as SaysLayout, reads, writes}
+use Rattle.ber_layout.specs.Layouts.{Layout, Value, Says as SaysLayout, IsShort, reads, writes}
 use Rattle.ber_layout.specs.Layouts.Layout.{Number, FurtherBut, AnyElement, Then, Maybe}
 use Rattle.ldap_msg.specs.declared.kinds.LdapResult.{LdapResult}
 use Rattle.ldap_msg.specs.declared.kinds.Reply.{Reply}
@@ -115,9 +115,17 @@ reply_content (reply.Extended result name value) = writes answered_layout (answe
 abbrev pub reply_parts : ℕ → Reply → Value reply_layout
 reply_parts id answer = (id, ((response_tag (response_for answer), reply_content answer), (None, tt)))
 
+-- the written content of a reply's message
+abbrev pub message_content : ℕ → Reply → List ℕ
+message_content id answer = writes reply_layout (reply_parts id answer)
+
 -- the written octets of a reply's message
 unfoldable pub reply_octets : ℕ → Reply → List ℕ
-reply_octets id answer = element_octets 0x30 (writes reply_layout (reply_parts id answer))
+reply_octets id answer = element_octets 0x30 (message_content id answer)
+
+-- its content has a length that can be written
+abbrev pub IsShortReply : ℕ → Reply → Type 0
+IsShortReply id answer = IsShort (message_content id answer)
 
 -- 1.3.6.1.4.1.1466.20036
 abbrev pub notice_name : List ℕ

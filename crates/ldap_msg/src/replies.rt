@@ -9,7 +9,7 @@ ghost use Rattle.ldap_msg.specs.declared.kinds.Reply.{Reply};
 ghost use Rattle.ldap_msg.specs.declared.operations.Response.TheVariants as response_is;
 ghost use Rattle.ldap_msg.specs.operations.Operations.{response_tag};
 ghost use Rattle.ldap_msg.specs.Results.{entry_layout, entry_parts, names_layout, answered_layout, answered_parts};
-ghost use Rattle.ldap_msg.specs.Replies.{Replies, response_for, reply_layout, reply_content, reply_parts, reply_octets, reply_in, reply_at, answer_in, reply_of, notice_octets};
+ghost use Rattle.ldap_msg.specs.Replies.{Replies, IsShortReply, response_for, reply_layout, reply_content, reply_parts, reply_octets, reply_in, reply_at, answer_in, reply_of, notice_octets};
 
 use crate::controls::controls;
 use crate::kinds::{KindValues, LdapResult, NoMemory, Reply};
@@ -116,6 +116,7 @@ fn put_components(out: &mut Vec<u8>, id: u32, reply: &Reply) -> Result<(), NoMem
 #[tactic(auto, unfolding(crate::specs::Replies::reply_octets))]
 fn put_message(out: &mut Vec<u8>, id: u32, reply: &Reply) -> Result<(), NoMemory>
     ensures ok { OnOk result (out.new.items ≡ out.old.items ++ reply_octets id reply.now) }
+    ensures short { OnOk result (IsShortReply id reply.now) }
     ensures kept { Extends out.old.items out.new.items }
 {
     let start = out.len();
@@ -126,6 +127,7 @@ fn put_message(out: &mut Vec<u8>, id: u32, reply: &Reply) -> Result<(), NoMemory
 /// Appends a reply's message, for which room is made at once.
 fn put_in_room(out: &mut Vec<u8>, id: u32, reply: &Reply) -> Result<(), NoMemory>
     ensures ok { OnOk result (out.new.items ≡ out.old.items ++ reply_octets id reply.now) }
+    ensures short { OnOk result (IsShortReply id reply.now) }
     ensures err { OnErr result (out.new.items ≡ out.old.items) }
 {
     out.reserve(reply_room(reply))?;
@@ -143,6 +145,8 @@ fn put_in_room(out: &mut Vec<u8>, id: u32, reply: &Reply) -> Result<(), NoMemory
 /// of memory, or a content of 2^32 octets or more, `out` is as before.
 pub fn put_reply(out: &mut Vec<u8>, id: u32, reply: &Reply) -> Result<(), NoMemory>
     ensures ok { OnOk result (out.new.items ≡ out.old.items ++ reply_octets id reply.now) }
+    // So it is read again, where its numbers are in the ranges of its layout.
+    ensures short { OnOk result (IsShortReply id reply.now) }
     ensures err { OnErr result (out.new.items ≡ out.old.items) }
 {
     if id <= MAX_ID {

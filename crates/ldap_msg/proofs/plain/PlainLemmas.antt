@@ -1,15 +1,16 @@
 -- The octets of a messageID by their number (X.690 8.3.2), and of a reply that is a result with no matched name.
-use Rattle.std.proofs.Common.{◌≡◌, ℕ, ◌+◌, ◌*◌, ◌<◌, ◌≤◌, Bool, false, eqb, ltb, List, [], ◌∷◌, ◌++◌, refl, sym, ap, ◌∙◌, inl, inr, arith, w64}
+use Rattle.std.proofs.Common.{◌≡◌, ℕ, ◌+◌, ◌*◌, ◌<◌, ◌≤◌, Bool, true, false, eqb, ltb, List, [], ◌∷◌, ◌++◌, length, length-append, refl, sym, ap, ◌∙◌, inl, inr, arith, w64}
 use Rattle.std.specs.Prelude.{ℤ, pos, ◌&&◌, Result, Ok, Err, OnOk, is_ok, if◌then◌else◌}
 use Rattle.std.specs.Int.{byte_at, to_be_bytes}
 use Rattle.std.proofs.lemmas.Bool.{cases_Bool, and_parts, eqb-true, ltb-true, eq-eqb, lt-ltb, le-ltb}
 use Rattle.ber_elements.specs.Integer.{trimmed, int_octets}
+use Rattle.ber_elements.specs.write.Spelling.{length_octets}
 use Rattle.ber_layout.specs.Layouts.{writes}
 use Rattle.ber_layout.specs.Spellings.{element_octets}
 use Rattle.ldap_msg.specs.declared.kinds.Reply.{Reply}
 use Rattle.ldap_msg.specs.operations.Operations.{response_tag}
 use Rattle.ldap_msg.specs.Results.{result_layout}
-use Rattle.ldap_msg.specs.Replies.{response_for, reply_content, reply_octets}
+use Rattle.ldap_msg.specs.Replies.{IsShortReply, response_for, reply_content, reply_octets}
 
 -- a zero before an octet with a clear first bit is spare
 spare : (b c : ℕ) (octets : List ℕ) → b ≡ 0 → c < 128 → trimmed (b ∷ c ∷ octets) ≡ trimmed (c ∷ octets)
@@ -78,6 +79,37 @@ plain_is id code tag answer number is few tagged content =
     ∙ ap (λ (s : List ℕ). plain_octets s (response_tag (response_for answer)) (int_octets (pos code))) is
     ∙ ap (λ (s : List ℕ). plain_octets number (response_tag (response_for answer)) s) (small code few)
     ∙ ap (λ (t : ℕ). plain_octets number t (code ∷ [])) (sym tagged)
+
+-- octets that are trimmed are no more than they were
+fewer : (test : Bool) (one other : List ℕ) (most : ℕ) → length one ≤ most → length other ≤ most → length (if test then one else other) ≤ most
+fewer true one other most first second = first
+fewer false one other most first second = second
+
+length-trimmed : (octets : List ℕ) → length (trimmed octets) ≤ length octets
+length-trimmed [] = omega arith
+length-trimmed (first ∷ []) = omega arith
+length-trimmed (first ∷ second ∷ octets) =
+    let less = length-trimmed (second ∷ octets) in
+    fewer (eqb first 0 && ltb second 128) (trimmed (second ∷ octets)) (first ∷ second ∷ octets) (length (first ∷ second ∷ octets)) (omega (arith, less)) (omega arith)
+
+-- an element of few octets has two more
+length-element : (tag : ℕ) (content : List ℕ) → length content < 128 → length (element_octets tag content) ≡ length content + 2
+unfolding element_octets length_octets
+length-element tag content few = rw (lt-ltb (length content) 128 few) (omega arith)
+
+-- so the content of the message of such a reply is short
+pub plain_short : (id code : ℕ) (answer : Reply) → id ≤ 2147483647 → code < 128 → reply_content answer ≡ writes result_layout (code, ([], (tt, tt))) → IsShortReply id answer
+plain_short id code answer most few is =
+    let tag = response_tag (response_for answer) in
+    let number = int_octets (pos id) in
+    let number_few : length number ≤ 4 =
+    omega (arith, ap length (low_four id (omega arith)), length-trimmed (byte_at 3 id ∷ byte_at 2 id ∷ byte_at 1 id ∷ byte_at 0 id ∷ [])) in
+    let code_few : length (element_octets 10 (int_octets (pos code))) ≡ 3 =
+    ap (λ (s : List ℕ). length (element_octets 10 s)) (small code few) ∙ length-element 10 (code ∷ []) (omega arith) in
+    let none : length (element_octets 4 []) ≡ 2 = length-element 4 [] (omega arith) in
+    let content_few : length (reply_content answer) ≡ 7 =
+    ap length is ∙ simp length-append (omega (arith, code_few, none)) in
+    simp length-append (omega (arith, number_few, length-element 2 number (omega (arith, number_few)), length-element tag (reply_content answer) (omega (arith, content_few)), content_few))
 
 -- what was appended, where there was memory
 pub where_ok : {T E : Type 0} (r : Result T E) (new appended old : List ℕ) → new ≡ (if is_ok r then appended else old) → OnOk r (new ≡ appended)
