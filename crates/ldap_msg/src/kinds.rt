@@ -91,12 +91,22 @@ pub struct CompareRequest {
     pub value: Octets,
 }
 
+/// Which entries a search is over (RFC 4511 4.5.1.2).
+#[derive(Clone, Copy, Debug)]
+pub enum SearchScope {
+    /// The base object alone.
+    BaseObject,
+    /// The entries immediately below the base object.
+    SingleLevel,
+    /// The base object and all below it.
+    WholeSubtree,
+}
+
 /// A search request (RFC 4511 4.5.1).
 #[derive(Drop)]
 pub struct SearchRequest {
     pub base: Octets,
-    /// 0 the base alone, 1 what stands immediately below it, 2 both and all below.
-    pub scope: u8,
+    pub scope: SearchScope,
     /// The most entries to be sent, 0 for no limit; up to 2,147,483,647.
     pub size: u32,
     /// Whether values are left out.

@@ -25,7 +25,7 @@ pub use framing::frame;
 pub use kinds::{
     AddRequest, Auth, BindRequest, Change, CompareRequest, Control, DeleteRequest, Frame,
     KindValues, LdapResult, MAX_CONTENT, Message, ModifyRequest, NoMemory, RenameRequest, Reply,
-    Request, SearchRequest,
+    Request, SearchRequest, SearchScope,
 };
 pub use ldap_filter;
 pub use ldap_filter::{Filter, Node};
