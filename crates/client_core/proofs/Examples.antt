@@ -14,6 +14,7 @@ use Rattle.ldap_msg.specs.declared.kinds.Auth.TheVariants.{Simple}
 use Rattle.ldap_msg.specs.declared.kinds.Message.{Message}
 use Rattle.ldap_msg.specs.declared.kinds.Request.{Request}
 use Rattle.ldap_msg.specs.declared.kinds.Request.TheVariants as request
+use Rattle.ldap_msg.specs.declared.kinds.SearchScope.TheVariants.{SingleLevel, WholeSubtree}
 use Rattle.ldap_msg.specs.declared.kinds.Reply.TheVariants as reply
 use Rattle.ldap_msg.specs.reading.Messages.{request_octets}
 use Rattle.ldif_records.proofs.laws.OnLiterals.{ldif_on_literals}
@@ -45,7 +46,7 @@ mail_is_bob = Equal (codes "mail") (codes "BOB@example.com")
 abbrev search : Message
 search = record {
   id = 1;
-  request = request.Search (record { base = codes "ou=people,dc=example"; scope = 1; size = 0; kinds_only = false; filter = mail_is_bob; selection = codes "cn" ∷ [] });
+  request = request.Search (record { base = codes "ou=people,dc=example"; scope = SingleLevel; size = 0; kinds_only = false; filter = mail_is_bob; selection = codes "cn" ∷ [] });
   controls = [];
 }
 
@@ -73,7 +74,7 @@ whole_search : asked_in (codes "do: search" ∷ codes "scope: sub" ∷ codes "li
       line = 1;
       message = record {
         id = 1;
-        request = request.Search (record { base = codes "o=a"; scope = 2; size = 10; kinds_only = true; filter = presence; selection = codes "cn" ∷ codes "*" ∷ [] });
+        request = request.Search (record { base = codes "o=a"; scope = WholeSubtree; size = 10; kinds_only = true; filter = presence; selection = codes "cn" ∷ codes "*" ∷ [] });
         controls = record { kind = codes "1.3.6.1.4.1.4203.1.10.1"; critical = true; value = Some (1 ∷ 1 ∷ 255 ∷ []) } ∷ [];
       };
     } ∷ [])

@@ -6,6 +6,8 @@ use Rattle.filter_text.specs.Faults.{FilterCause}
 use Rattle.filter_text.specs.Reading.{filter_in}
 use Rattle.ldap_msg.specs.ldap_filter.filter.Filters.{Filter}
 use Rattle.ldap_msg.specs.ldap_filter.filter.Filters.Filter.{Present}
+use Rattle.ldap_msg.specs.declared.kinds.SearchScope.{SearchScope}
+use Rattle.ldap_msg.specs.declared.kinds.SearchScope.TheVariants.{BaseObject, SingleLevel, WholeSubtree}
 use Rattle.ldap_msg.specs.declared.kinds.KindValues.{KindValues}
 use Rattle.ldap_msg.specs.declared.kinds.Change.{Change}
 use Rattle.ldap_msg.specs.declared.kinds.Control.{Control}
@@ -25,9 +27,9 @@ values_of kind lines = map (λ line. line.value) (filter (λ line. bytes_eq line
 abbrev pub text_of : List ℕ → List RecordLine → List ℕ
 text_of kind lines = unwrap_or (value_of kind lines) []
 
--- the number of a scope: 0 base, 1 one, 2 sub (RFC 4511 4.5.1.2); base where none is given
-abbrev pub scope_number : List ℕ → ℕ
-scope_number text = if bytes_eq text (codes "one") then 1 else if bytes_eq text (codes "sub") then 2 else 0
+-- the scope of a word (RFC 4511 4.5.1.2); the base object where none is given
+abbrev pub scope_named : List ℕ → SearchScope
+scope_named text = if bytes_eq text (codes "one") then SingleLevel else if bytes_eq text (codes "sub") then WholeSubtree else BaseObject
 
 -- the most entries to be sent; 0, for no limit, where no number is given
 abbrev pub limit_number : List ℕ → ℕ
