@@ -1,5 +1,7 @@
 //! The values of this crate (RFC 4511 section 4).
 
+ghost use Rattle.std.specs.Prelude.{◌≤◌};
+
 use ldap_filter::Filter;
 use plain_values::{Octets, OneOrMany};
 use std::alloc::AllocError;
@@ -46,11 +48,31 @@ pub struct KindValues {
     pub values: OneOrMany<Octets>,
 }
 
+/// An operation on an attribute beyond the three of RFC 4511 4.6, as the increment of RFC 4525 is 3.
+#[derive(Clone, Copy, Debug)]
+pub struct OtherOperation {
+    /// From 3 to 127.
+    pub number: u8,
+    pub ghost beyond: { 3 ≤ number },
+}
+
+/// What a change does with the values of its attribute (RFC 4511 4.6).
+#[derive(Clone, Copy, Debug)]
+pub enum ModifyOperation {
+    /// They come beside those that are there.
+    Add,
+    /// They go; where none is given, the attribute goes.
+    Delete,
+    /// They take the place of all that are there; where none is given, the attribute goes.
+    Replace,
+    /// Another operation.
+    Other(OtherOperation),
+}
+
 /// One change of a modify request (RFC 4511 4.6).
 #[derive(Debug, Drop)]
 pub struct Change {
-    /// From 0 to 127.
-    pub operation: u8,
+    pub operation: ModifyOperation,
     pub body: KindValues,
 }
 
