@@ -15,6 +15,7 @@ use Rattle.ldap_msg.specs.declared.kinds.Message.{Message}
 use Rattle.ldap_msg.specs.declared.kinds.Request.{Request}
 use Rattle.ldap_msg.specs.declared.kinds.Request.TheVariants as request
 use Rattle.ldap_msg.specs.declared.kinds.SearchScope.TheVariants.{SingleLevel, WholeSubtree}
+use Rattle.ldap_msg.specs.declared.kinds.ModifyOperation.TheVariants.{Add, Delete, Replace}
 use Rattle.ldap_msg.specs.declared.kinds.Reply.TheVariants as reply
 use Rattle.ldap_msg.specs.reading.Messages.{request_octets}
 use Rattle.ldif_records.proofs.laws.OnLiterals.{ldif_on_literals}
@@ -96,7 +97,7 @@ unfolding asks_of asks_in word_of taken_by first_bad bad_line at_last attributes
 add = refl
 
 modify : asked_in (codes "do: modify" ∷ codes "replace: cn" ∷ codes "value: b" ∷ codes "value: c" ∷ codes "delete: sn" ∷ codes "add: 2.5.4.5" ∷ codes "value: d" ∷ [])
-    ≡ one (request.Modify (record { name = codes "o=a"; changes = record { operation = 2; body = record { kind = codes "cn"; values = codes "b" ∷ codes "c" ∷ [] } } ∷ record { operation = 1; body = record { kind = codes "sn"; values = [] } } ∷ record { operation = 0; body = record { kind = codes "2.5.4.5"; values = codes "d" ∷ [] } } ∷ [] }))
+    ≡ one (request.Modify (record { name = codes "o=a"; changes = record { operation = Replace; body = record { kind = codes "cn"; values = codes "b" ∷ codes "c" ∷ [] } } ∷ record { operation = Delete; body = record { kind = codes "sn"; values = [] } } ∷ record { operation = Add; body = record { kind = codes "2.5.4.5"; values = codes "d" ∷ [] } } ∷ [] }))
 unfolding asks_of asks_in word_of taken_by first_bad bad_line at_last changes_of ldif_on_literals
 modify = refl
 
