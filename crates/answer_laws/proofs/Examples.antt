@@ -25,6 +25,7 @@ use Rattle.acdf_filters.specs.users.Users.{ranks_of}
 use Rattle.acdf_filters.specs.Covering.{covers, is_explicit}
 use Rattle.acdf_filters.specs.Filters.{decided}
 use Rattle.acdf_filters.specs.Granted.{granted}
+use Rattle.ldap_msg.specs.declared.kinds.SearchScope.TheVariants.{BaseObject}
 use Rattle.ldap_msg.specs.declared.kinds.SearchRequest.{SearchRequest}
 use Rattle.ldap_msg.specs.declared.kinds.CompareRequest.{CompareRequest}
 use Rattle.ldap_msg.specs.ldap_filter.filter.Filters.Filter.{Present}
@@ -143,7 +144,7 @@ abbrev closed : Row
 closed = record { entry = record { name = suffix; attributes = [] }; allows = λ item permission. false }
 
 abbrev asked : SearchRequest
-asked = record { base = []; scope = 0; size = 0; kinds_only = false; filter = Present (codes "objectClass"); selection = [] }
+asked = record { base = []; scope = BaseObject; size = 0; kinds_only = false; filter = Present (codes "objectClass"); selection = [] }
 
 a_base_that_is_not_known : replies_at (closed ∷ []) asked None suffix ≡ reply.Done (result_with code.NoSuchObject []) ∷ []
 unfolding name_cmp is_same is_prefix_of matched_name is_selected selected found_replies replies_at

@@ -5,6 +5,8 @@ use Rattle.std.specs.List.{slice_split}
 use Rattle.std.specs.Str.{bytes_eq}
 use Rattle.dir_tree.specs.plain_values.Results.{◌>>=◌}
 use Rattle.ldap_msg.specs.declared.kinds.KindValues.{KindValues}
+use Rattle.ldap_msg.specs.declared.kinds.ModifyOperation.{ModifyOperation}
+use Rattle.ldap_msg.specs.declared.kinds.ModifyOperation.TheVariants.{Add, Delete, Replace}
 use Rattle.ldap_msg.specs.declared.kinds.Change.{Change}
 use Rattle.ldap_msg.specs.declared.kinds.RenameRequest.{RenameRequest}
 use Rattle.ldap_msg.specs.declared.kinds.Request.{Request}
@@ -41,15 +43,15 @@ nothing_in (line ∷ rest) = Err (Bad line.number Syntax)
 -- ---- a modify
 
 -- what is done with a type (RFC 4511 4.6)
-abbrev pub operation_named : List ℕ → Option ℕ
+abbrev pub operation_named : List ℕ → Option ModifyOperation
 operation_named word =
-    if bytes_eq word (codes "add") then Some 0
-    else if bytes_eq word (codes "delete") then Some 1
-    else if bytes_eq word (codes "replace") then Some 2
+    if bytes_eq word (codes "add") then Some Add
+    else if bytes_eq word (codes "delete") then Some Delete
+    else if bytes_eq word (codes "replace") then Some Replace
     else None
 
 -- the change of the operation with the type, without values yet
-abbrev pub change_with : ℕ → List ℕ → Option ℕ → Result Change LineFault
+abbrev pub change_with : ℕ → List ℕ → Option ModifyOperation → Result Change LineFault
 change_with number kind None = Err (Bad number Syntax)
 change_with number kind (Some operation) = Ok (record { operation = operation; body = record { kind = kind; values = [] } })
 

@@ -1,10 +1,12 @@
 -- The requests whose records say them: those that change something, with octets, types that have the form of one, and no
 -- more than a record can say.
-use Rattle.std.specs.Prelude.{◌≡◌, ℕ, ◌≤◌, ◌<◌, false, true, List, [], ◌∷◌, length, Option, Some, None}
+use Rattle.std.specs.Prelude.{◌≡◌, ℕ, ◌<◌, Bool, false, true, List, [], ◌∷◌, length, Option, Some, None}
 use Rattle.std.specs.List.{AllByRecursion}
 use Rattle.std.specs.Str.{bytes_eq}
 use Rattle.base64.specs.GeneralPurpose.{IsBytes}
 use Rattle.ldap_msg.specs.declared.kinds.KindValues.{KindValues}
+use Rattle.ldap_msg.specs.declared.kinds.ModifyOperation.{ModifyOperation}
+use Rattle.ldap_msg.specs.declared.kinds.ModifyOperation.TheVariants.{Add, Delete, Replace, Other}
 use Rattle.ldap_msg.specs.declared.kinds.Change.{Change}
 use Rattle.ldap_msg.specs.declared.kinds.Request.{Request}
 use Rattle.ldap_msg.specs.declared.kinds.Request.TheVariants as request
@@ -15,9 +17,16 @@ pub record IsWritableAttribute (given : KindValues) : Type 0 where
   pub kind : is_kind given.kind ≡ true
   pub values : AllByRecursion IsBytes given.values
 
+-- the operation is one of the three that the standard has
+abbrev pub is_standard : ModifyOperation → Bool
+is_standard Add = true
+is_standard Delete = true
+is_standard Replace = true
+is_standard (Other other) = false
+
 -- one of the three operations on such an attribute, which may lack values (RFC 4511 4.6)
 pub record IsWritableChange (change : Change) : Type 0 where
-  pub operation : change.operation ≤ 2
+  pub operation : is_standard change.operation ≡ true
   pub body : IsWritableAttribute change.body
 
 -- an attribute of a new entry: it has a value, and its type isn't `changetype`

@@ -1,8 +1,10 @@
 -- The records of changes (RFC 2849, ldif-change-record): the lines of a modify, an add, a delete and a modify DN.
-use Rattle.std.specs.Prelude.{ℕ, ◌==◌, Bool, if◌then◌else◌, List, [], ◌∷◌, ◌++◌, map, codes, Option, Some, None}
+use Rattle.std.specs.Prelude.{ℕ, Bool, if◌then◌else◌, List, [], ◌∷◌, ◌++◌, map, codes, Option, Some, None}
 use Rattle.std.specs.List.{flat_map}
 use Rattle.whole_blocks.specs.Blocks.{block_text}
 use Rattle.ldap_msg.specs.declared.kinds.KindValues.{KindValues}
+use Rattle.ldap_msg.specs.declared.kinds.ModifyOperation.{ModifyOperation}
+use Rattle.ldap_msg.specs.declared.kinds.ModifyOperation.TheVariants.{Add, Delete, Replace, Other}
 use Rattle.ldap_msg.specs.declared.kinds.Change.{Change}
 use Rattle.ldap_msg.specs.declared.kinds.Request.{Request}
 use Rattle.ldap_msg.specs.declared.kinds.Request.TheVariants as request
@@ -16,9 +18,12 @@ row kind value = kind ++ written_value value
 abbrev pub value_rows : KindValues → List (List ℕ)
 value_rows given = map (λ value. row given.kind value) given.values
 
--- what is done with a type: 0 add, 1 delete, 2 replace (RFC 4511 4.6)
-abbrev pub operation_word : ℕ → List ℕ
-operation_word operation = if operation == 0 then codes "add" else if operation == 1 then codes "delete" else codes "replace"
+-- what is done with a type (RFC 4511 4.6); no change by another operation is made, and so none is written
+abbrev pub operation_word : ModifyOperation → List ℕ
+operation_word Add = codes "add"
+operation_word Delete = codes "delete"
+operation_word Replace = codes "replace"
+operation_word (Other other) = codes "replace"
 
 -- the lines of one change of a modify: what is done with which type, the values, and a hyphen
 abbrev pub change_rows : Change → List (List ℕ)

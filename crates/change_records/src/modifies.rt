@@ -8,20 +8,20 @@ ghost use Rattle.change_records.specs.Reading.{operation_named, change_with, cha
 use crate::lines::{is_hyphen, misplaced, value_line};
 use crate::types::NoMemory;
 use ldap_msg::plain_values::{Octets, OneOrMany};
-use ldap_msg::{Change, KindValues};
+use ldap_msg::{Change, KindValues, ModifyOperation};
 use ldif_records::{BadLine, Unfolded, attribute_line};
 use std::alloc::Global;
 
-// The number of the operation that a word names.
-fn operation_named(word: &[u8]) -> Option<u8>
+// The operation that a word names.
+fn operation_named(word: &[u8]) -> Option<ModifyOperation>
     ensures { result ≡ operation_named word.now }
 {
     if word == b"add".as_slice() {
-        Some(0)
+        Some(ModifyOperation::Add)
     } else if word == b"delete".as_slice() {
-        Some(1)
+        Some(ModifyOperation::Delete)
     } else if word == b"replace".as_slice() {
-        Some(2)
+        Some(ModifyOperation::Replace)
     } else {
         None
     }
@@ -32,7 +32,7 @@ fn change_with(
     alloc: Global,
     number: u64,
     kind: Octets,
-    operation: Option<u8>,
+    operation: Option<ModifyOperation>,
 ) -> Result<Change, BadLine>
     ensures { Answers (λ change. change) fault_of result (change_with number kind operation) }
 {

@@ -8,7 +8,8 @@ ghost use Rattle.change_records.specs.Written.{row, value_rows, operation_word, 
 use crate::types::NoMemory;
 use ldap_msg::plain_values::Octets;
 use ldap_msg::{
-    AddRequest, Change, DeleteRequest, KindValues, ModifyRequest, RenameRequest, Request,
+    AddRequest, Change, DeleteRequest, KindValues, ModifyOperation, ModifyRequest, RenameRequest,
+    Request,
 };
 use ldif_records::put_line;
 
@@ -30,13 +31,13 @@ fn put_values(out: &mut Vec<u8>, given: &KindValues) -> Result<(), NoMemory>
 }
 
 // The word for an operation on a type.
-fn operation_word(operation: u8) -> &'static [u8]
+fn operation_word(operation: ModifyOperation) -> &'static [u8]
     ensures { result.now ≡ operation_word operation }
 {
     match operation {
-        0 => b"add",
-        1 => b"delete",
-        _ => b"replace",
+        ModifyOperation::Add => b"add",
+        ModifyOperation::Delete => b"delete",
+        ModifyOperation::Replace | ModifyOperation::Other(_) => b"replace",
     }
 }
 

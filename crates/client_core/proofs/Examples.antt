@@ -14,6 +14,8 @@ use Rattle.ldap_msg.specs.declared.kinds.Auth.TheVariants.{Simple}
 use Rattle.ldap_msg.specs.declared.kinds.Message.{Message}
 use Rattle.ldap_msg.specs.declared.kinds.Request.{Request}
 use Rattle.ldap_msg.specs.declared.kinds.Request.TheVariants as request
+use Rattle.ldap_msg.specs.declared.kinds.SearchScope.TheVariants.{SingleLevel, WholeSubtree}
+use Rattle.ldap_msg.specs.declared.kinds.ModifyOperation.TheVariants.{Add, Delete, Replace}
 use Rattle.ldap_msg.specs.declared.kinds.Reply.TheVariants as reply
 use Rattle.ldap_msg.specs.reading.Messages.{request_octets}
 use Rattle.ldif_records.proofs.laws.OnLiterals.{ldif_on_literals}
@@ -45,7 +47,7 @@ mail_is_bob = Equal (codes "mail") (codes "BOB@example.com")
 abbrev search : Message
 search = record {
   id = 1;
-  request = request.Search (record { base = codes "ou=people,dc=example"; scope = 1; size = 0; kinds_only = false; filter = mail_is_bob; selection = codes "cn" ∷ [] });
+  request = request.Search (record { base = codes "ou=people,dc=example"; scope = SingleLevel; size = 0; kinds_only = false; filter = mail_is_bob; selection = codes "cn" ∷ [] });
   controls = [];
 }
 
@@ -73,7 +75,7 @@ whole_search : asked_in (codes "do: search" ∷ codes "scope: sub" ∷ codes "li
       line = 1;
       message = record {
         id = 1;
-        request = request.Search (record { base = codes "o=a"; scope = 2; size = 10; kinds_only = true; filter = presence; selection = codes "cn" ∷ codes "*" ∷ [] });
+        request = request.Search (record { base = codes "o=a"; scope = WholeSubtree; size = 10; kinds_only = true; filter = presence; selection = codes "cn" ∷ codes "*" ∷ [] });
         controls = record { kind = codes "1.3.6.1.4.1.4203.1.10.1"; critical = true; value = Some (1 ∷ 1 ∷ 255 ∷ []) } ∷ [];
       };
     } ∷ [])
@@ -95,7 +97,7 @@ unfolding asks_of asks_in word_of taken_by first_bad bad_line at_last attributes
 add = refl
 
 modify : asked_in (codes "do: modify" ∷ codes "replace: cn" ∷ codes "value: b" ∷ codes "value: c" ∷ codes "delete: sn" ∷ codes "add: 2.5.4.5" ∷ codes "value: d" ∷ [])
-    ≡ one (request.Modify (record { name = codes "o=a"; changes = record { operation = 2; body = record { kind = codes "cn"; values = codes "b" ∷ codes "c" ∷ [] } } ∷ record { operation = 1; body = record { kind = codes "sn"; values = [] } } ∷ record { operation = 0; body = record { kind = codes "2.5.4.5"; values = codes "d" ∷ [] } } ∷ [] }))
+    ≡ one (request.Modify (record { name = codes "o=a"; changes = record { operation = Replace; body = record { kind = codes "cn"; values = codes "b" ∷ codes "c" ∷ [] } } ∷ record { operation = Delete; body = record { kind = codes "sn"; values = [] } } ∷ record { operation = Add; body = record { kind = codes "2.5.4.5"; values = codes "d" ∷ [] } } ∷ [] }))
 unfolding asks_of asks_in word_of taken_by first_bad bad_line at_last changes_of ldif_on_literals
 modify = refl
 

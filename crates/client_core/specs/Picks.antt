@@ -6,7 +6,11 @@ use Rattle.filter_text.specs.Faults.{FilterCause}
 use Rattle.filter_text.specs.Reading.{filter_in}
 use Rattle.ldap_msg.specs.ldap_filter.filter.Filters.{Filter}
 use Rattle.ldap_msg.specs.ldap_filter.filter.Filters.Filter.{Present}
+use Rattle.ldap_msg.specs.declared.kinds.SearchScope.{SearchScope}
+use Rattle.ldap_msg.specs.declared.kinds.SearchScope.TheVariants.{BaseObject, SingleLevel, WholeSubtree}
 use Rattle.ldap_msg.specs.declared.kinds.KindValues.{KindValues}
+use Rattle.ldap_msg.specs.declared.kinds.ModifyOperation.{ModifyOperation}
+use Rattle.ldap_msg.specs.declared.kinds.ModifyOperation.TheVariants.{Add, Delete, Replace}
 use Rattle.ldap_msg.specs.declared.kinds.Change.{Change}
 use Rattle.ldap_msg.specs.declared.kinds.Control.{Control}
 use Rattle.ldif_records.specs.declared.types.RecordLine.{RecordLine}
@@ -25,9 +29,9 @@ values_of kind lines = map (λ line. line.value) (filter (λ line. bytes_eq line
 abbrev pub text_of : List ℕ → List RecordLine → List ℕ
 text_of kind lines = unwrap_or (value_of kind lines) []
 
--- the number of a scope: 0 base, 1 one, 2 sub (RFC 4511 4.5.1.2); base where none is given
-abbrev pub scope_number : List ℕ → ℕ
-scope_number text = if bytes_eq text (codes "one") then 1 else if bytes_eq text (codes "sub") then 2 else 0
+-- the scope of a word (RFC 4511 4.5.1.2); the base object where none is given
+abbrev pub scope_named : List ℕ → SearchScope
+scope_named text = if bytes_eq text (codes "one") then SingleLevel else if bytes_eq text (codes "sub") then WholeSubtree else BaseObject
 
 -- the most entries to be sent; 0, for no limit, where no number is given
 abbrev pub limit_number : List ℕ → ℕ
@@ -80,13 +84,13 @@ and_attribute line last =
 unfoldable pub attributes_of : List RecordLine → List KindValues
 attributes_of lines = fold (λ attributes line. at_last (attribute_of line) (and_attribute line) attributes) [] lines
 
--- the number of a change: 0 add, 1 delete, 2 replace (RFC 4511 4.6)
-abbrev pub change_number : List ℕ → ℕ
-change_number kind = if bytes_eq kind (codes "delete") then 1 else if bytes_eq kind (codes "replace") then 2 else 0
+-- the operation of a change (RFC 4511 4.6)
+abbrev pub operation_named : List ℕ → ModifyOperation
+operation_named kind = if bytes_eq kind (codes "delete") then Delete else if bytes_eq kind (codes "replace") then Replace else Add
 
 -- the change of a line, which names its type
 abbrev pub change_of : RecordLine → Change
-change_of line = record { operation = change_number line.kind; body = record { kind = line.value; values = [] } }
+change_of line = record { operation = operation_named line.kind; body = record { kind = line.value; values = [] } }
 
 -- a change and a line behind it: a value of the change, or a change of its own
 abbrev pub and_change : RecordLine → Change → List Change

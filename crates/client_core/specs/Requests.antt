@@ -10,13 +10,13 @@ use Rattle.ldap_msg.specs.declared.kinds.Request.TheVariants as request
 use Rattle.ldif_records.specs.declared.types.RecordLine.{RecordLine}
 use Rattle.client_core.specs.declared.words.Word.{Word}
 use Rattle.client_core.specs.declared.words.Word.TheVariants as word
-use Rattle.client_core.specs.Picks.{value_of, values_of, text_of, scope_number, limit_number, filter_by, subentries_control, attributes_of, changes_of}
+use Rattle.client_core.specs.Picks.{value_of, values_of, text_of, scope_named, limit_number, filter_by, subentries_control, attributes_of, changes_of}
 
 -- a search (4.5.1)
 abbrev pub search_of : List ℕ → List RecordLine → SearchRequest
 search_of name lines = record {
   base = name;
-  scope = scope_number (text_of (codes "scope") lines);
+  scope = scope_named (text_of (codes "scope") lines);
   size = limit_number (text_of (codes "limit") lines);
   kinds_only = is_some (value_of (codes "only") lines);
   filter = filter_by (value_of (codes "filter") lines);

@@ -1,13 +1,13 @@
 //! The attributes and the changes that lines say.
 
 ghost use Rattle.std.specs.Prelude.{◌≡◌, ◌++◌, IfOk, OnOk};
-ghost use Rattle.client_core.specs.Picks.{at_last, with_value, attribute_of, and_attribute, attributes_of, change_number, change_of, and_change, changes_of};
+ghost use Rattle.client_core.specs.Picks.{at_last, with_value, attribute_of, and_attribute, attributes_of, operation_named, change_of, and_change, changes_of};
 
 use crate::picking::octets_of;
 use crate::rows::is_value;
 use crate::types::NoMemory;
 use ldap_msg::plain_values::OneOrMany;
-use ldap_msg::{Change, KindValues};
+use ldap_msg::{Change, KindValues, ModifyOperation};
 use ldif_records::RecordLine;
 use std::alloc::Global;
 
@@ -84,16 +84,16 @@ pub(crate) fn attributes_of(
     Ok(OneOrMany::from_vec(attributes))
 }
 
-// The number of a change.
-fn change_number(kind: &[u8]) -> u8
-    ensures exact { result ≡ change_number kind.now }
+// The operation of a change.
+fn operation_named(kind: &[u8]) -> ModifyOperation
+    ensures exact { result ≡ operation_named kind.now }
 {
     if kind == b"delete".as_slice() {
-        1
+        ModifyOperation::Delete
     } else if kind == b"replace".as_slice() {
-        2
+        ModifyOperation::Replace
     } else {
-        0
+        ModifyOperation::Add
     }
 }
 
@@ -103,7 +103,7 @@ fn change_of(alloc: Global, line: &RecordLine) -> Result<Change, NoMemory>
 {
     let kind = octets_of(alloc, line.value.as_slice())?;
     Ok(Change {
-        operation: change_number(line.kind.as_slice()),
+        operation: operation_named(line.kind.as_slice()),
         body: KindValues {
             kind,
             values: OneOrMany::from_vec(Vec::new(alloc)),

@@ -1,12 +1,12 @@
 //! What the lines of a record say.
 
 ghost use Rattle.std.specs.Prelude.{◌≡◌, ◌++◌, ◌∷◌, [], IfOk, OnOk, option_map, codes};
-ghost use Rattle.client_core.specs.Picks.{value_of, values_of, text_of, scope_number, limit_number, subentries_control, truth_octets};
+ghost use Rattle.client_core.specs.Picks.{value_of, values_of, text_of, scope_named, limit_number, subentries_control, truth_octets};
 
 use crate::limits::limit_in;
 use crate::types::NoMemory;
-use ldap_msg::Control;
 use ldap_msg::plain_values::{Octets, OneOrMany};
+use ldap_msg::{Control, SearchScope};
 use ldif_records::RecordLine;
 use std::alloc::Global;
 
@@ -81,16 +81,16 @@ pub(crate) fn values_of(
     Ok(OneOrMany::from_vec(values))
 }
 
-/// The number of a scope.
-pub(crate) fn scope_number(text: &[u8]) -> u8
-    ensures exact { result ≡ scope_number text.now }
+/// The scope of a word; the base object where none is given.
+pub(crate) fn scope_named(text: &[u8]) -> SearchScope
+    ensures exact { result ≡ scope_named text.now }
 {
     if text == b"one".as_slice() {
-        1
+        SearchScope::SingleLevel
     } else if text == b"sub".as_slice() {
-        2
+        SearchScope::WholeSubtree
     } else {
-        0
+        SearchScope::BaseObject
     }
 }
 

@@ -7,7 +7,7 @@ ghost use Rattle.client_core.specs.Requests.{search_of, asserted_by, compare_of,
 use crate::changes::{attributes_of, changes_of};
 use crate::filters::filter_by;
 use crate::picking::{
-    limit_number, octets_at, octets_of, scope_number, subentries_control, text_of, value_of,
+    limit_number, octets_at, octets_of, scope_named, subentries_control, text_of, value_of,
     values_of,
 };
 use crate::types::NoMemory;
@@ -42,7 +42,7 @@ fn search(alloc: Global, name: &[u8], lines: &[RecordLine]) -> Result<SearchRequ
     let filter = filter_by(alloc, value_of(b"filter", lines))?;
     Ok(SearchRequest {
         base,
-        scope: scope_number(text_of(b"scope", lines)),
+        scope: scope_named(text_of(b"scope", lines)),
         size: limit_number(text_of(b"limit", lines)),
         kinds_only: value_of(b"only", lines).is_some(),
         filter,

@@ -4,6 +4,7 @@ use Rattle.ber_elements.specs.declared.kinds.Header.TheVariants.{Head, Short}
 use Rattle.ber_elements.specs.Heading.{header_at}
 use Rattle.ldap_msg.specs.declared.kinds.Frame.TheVariants.{More, Bad}
 use Rattle.ldap_msg.specs.declared.kinds.Message.{Message}
+use Rattle.ldap_msg.specs.declared.kinds.SearchScope.TheVariants.{BaseObject}
 use Rattle.ldap_msg.specs.declared.kinds.SearchRequest.{SearchRequest}
 use Rattle.ldap_msg.specs.declared.kinds.Request.TheVariants.{Search}
 use Rattle.ldap_msg.specs.Streams.{frame_at, whole, rest_of, joined}
@@ -56,7 +57,7 @@ CutsJoin = (most left : ℕ) (octets : List ℕ) → joined (pieces_of most left
 -- octets that say a search of another scope than that of the base object are wide
 abbrev pub SearchesAreWide : Type 0
 SearchesAreWide = (message : Message) (search : SearchRequest) (octets : List ℕ) → Says message octets → message.request ≡ Search search
-    → search.scope ≢ 0 → is_wide octets ≡ true
+    → search.scope ≢ BaseObject → is_wide octets ≡ true
 
 -- octets that say no search aren't wide
 abbrev pub OnlySearchesAreWide : Type 0

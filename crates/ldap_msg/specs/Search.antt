@@ -1,5 +1,5 @@
 -- Search requests (RFC 4511 4.5.1).
-use Rattle.std.specs.Prelude.{◌≡◌, ℕ, Bool, List, Option, Some}
+use Rattle.std.specs.Prelude.{◌≡◌, ℕ, Bool, true, false, List, Option, Some, ◌==◌, if◌then◌else◌}
 use Rattle.ber_layout.specs.element.Pieces.{◌>>=◌}
 use Rattle.ber_layout.specs.Layouts.{Layout, Value, Says as SaysLayout, reads}
 use Rattle.ber_layout.specs.Layouts.Layout.{AnyOctets, Number, Skipped, Flag, End, Further, AnyElement, Then, Each}
@@ -7,7 +7,26 @@ use Rattle.ldap_filter.specs.filter.Filters.{Filter}
 use Rattle.ldap_filter.specs.reading.FilterLayouts.{IsFilter}
 use Rattle.ldap_filter.specs.reading.FilterReading.{filter_of}
 use Rattle.ldap_filter.specs.FilterSpelling.{filter_octets}
+use Rattle.ldap_msg.specs.declared.kinds.SearchScope.{SearchScope}
+use Rattle.ldap_msg.specs.declared.kinds.SearchScope.TheVariants.{BaseObject, SingleLevel, WholeSubtree}
 use Rattle.ldap_msg.specs.declared.kinds.SearchRequest.{SearchRequest}
+
+-- scope ENUMERATED { baseObject (0), singleLevel (1), wholeSubtree (2) }
+abbrev pub scope_number : SearchScope → ℕ
+scope_number BaseObject = 0
+scope_number SingleLevel = 1
+scope_number WholeSubtree = 2
+
+-- the scope of a number up to 2
+abbrev pub scope_from : ℕ → SearchScope
+scope_from number =
+    if number == scope_number BaseObject then BaseObject else if number == scope_number SingleLevel then SingleLevel else WholeSubtree
+
+-- the scope is the base object alone
+abbrev pub is_base : SearchScope → Bool
+is_base BaseObject = true
+is_base SingleLevel = false
+is_base WholeSubtree = false
 
 -- sizeLimit INTEGER (0 .. maxInt), timeLimit INTEGER (0 .. maxInt), typesOnly BOOLEAN, filter Filter, attributes
 -- AttributeSelection, ...; the time limit isn't kept
@@ -26,7 +45,7 @@ filter_part parts = parts.1.1.1.1.1.1.0
 -- the search of these parts with this filter
 abbrev pub search_with : Value search_layout → Filter → SearchRequest
 search_with parts filter =
-    record { base = parts.0; scope = parts.1.0; size = parts.1.1.1.0; kinds_only = parts.1.1.1.1.1.0; filter = filter; selection = parts.1.1.1.1.1.1.1.0.0 }
+    record { base = parts.0; scope = scope_from parts.1.0; size = parts.1.1.1.0; kinds_only = parts.1.1.1.1.1.0; filter = filter; selection = parts.1.1.1.1.1.1.1.0.0 }
 
 -- the content says the search
 pub record SaysSearch (search : SearchRequest) (content : List ℕ) : Type 0 where
@@ -44,4 +63,4 @@ search_of content = reads search_layout content >>= search_from
 
 -- the parts of a search
 abbrev pub search_parts : SearchRequest → Value search_layout
-search_parts search = (search.base, (search.scope, (tt, (search.size, (tt, (search.kinds_only, (filter_octets search.filter, ((search.selection, tt), tt))))))))
+search_parts search = (search.base, (scope_number search.scope, (tt, (search.size, (tt, (search.kinds_only, (filter_octets search.filter, ((search.selection, tt), tt))))))))

@@ -1,12 +1,41 @@
 //! Attributes, and changes of them (RFC 4511 4.1.7, 4.6).
 
-use crate::kinds::{Change, KindValues, NoMemory};
+ghost use Rattle.std.specs.Prelude.{◌≡◌};
+ghost use Rattle.ldap_msg.specs.Attributes.{operation_number};
+
+use crate::kinds::{Change, KindValues, ModifyOperation, NoMemory, OtherOperation};
 use ber_layout::{
     Laid, ReadFault, integer, octets_list, put_element, put_inside, put_number, put_octets_list,
     required,
 };
 use plain_values::Octets;
 use std::alloc::Global;
+
+impl ModifyOperation {
+    /// The operation's number.
+    pub fn number(self) -> u8
+        ensures { result ≡ operation_number self }
+    {
+        match self {
+            ModifyOperation::Add => 0,
+            ModifyOperation::Delete => 1,
+            ModifyOperation::Replace => 2,
+            ModifyOperation::Other(other) => other.number,
+        }
+    }
+
+    /// The operation of the number.
+    pub fn of(number: u8) -> ModifyOperation
+        ensures { operation_number result ≡ number }
+    {
+        match number {
+            0 => ModifyOperation::Add,
+            1 => ModifyOperation::Delete,
+            2 => ModifyOperation::Replace,
+            _ => ModifyOperation::Other(OtherOperation { number }),
+        }
+    }
+}
 
 impl Laid for KindValues {
     ghost use Rattle.ldap_msg.specs.Attributes.{attribute_layout, attribute_parts};
@@ -49,13 +78,13 @@ impl Laid for Change {
             return Err(ReadFault::BadMessage);
         }
         Ok(Change {
-            operation: operation.value as u8,
+            operation: ModifyOperation::of(operation.value as u8),
             body: body.value,
         })
     }
 
     fn put(&self, out: &mut Vec<u8>) -> Result<(), NoMemory> {
-        put_number(out, 0x0a, u32::from(self.operation))?;
+        put_number(out, 0x0a, u32::from(self.operation.number()))?;
         put_inside(out, 0x30, &self.body)
     }
 }

@@ -1,5 +1,7 @@
 //! The values of this crate (RFC 4511 section 4).
 
+ghost use Rattle.std.specs.Prelude.{◌≤◌};
+
 use ldap_filter::Filter;
 use plain_values::{Octets, OneOrMany};
 use std::alloc::AllocError;
@@ -46,11 +48,31 @@ pub struct KindValues {
     pub values: OneOrMany<Octets>,
 }
 
+/// An operation on an attribute beyond the three of RFC 4511 4.6, as the increment of RFC 4525 is 3.
+#[derive(Clone, Copy, Debug)]
+pub struct OtherOperation {
+    /// From 3 to 127.
+    pub number: u8,
+    pub ghost beyond: { 3 ≤ number },
+}
+
+/// What a change does with the values of its attribute (RFC 4511 4.6).
+#[derive(Clone, Copy, Debug)]
+pub enum ModifyOperation {
+    /// They come beside those that are there.
+    Add,
+    /// They go; where none is given, the attribute goes.
+    Delete,
+    /// They take the place of all that are there; where none is given, the attribute goes.
+    Replace,
+    /// Another operation.
+    Other(OtherOperation),
+}
+
 /// One change of a modify request (RFC 4511 4.6).
 #[derive(Debug, Drop)]
 pub struct Change {
-    /// From 0 to 127.
-    pub operation: u8,
+    pub operation: ModifyOperation,
     pub body: KindValues,
 }
 
@@ -91,12 +113,22 @@ pub struct CompareRequest {
     pub value: Octets,
 }
 
+/// Which entries a search is over (RFC 4511 4.5.1.2).
+#[derive(Clone, Copy, Debug)]
+pub enum SearchScope {
+    /// The base object alone.
+    BaseObject,
+    /// The entries immediately below the base object.
+    SingleLevel,
+    /// The base object and all below it.
+    WholeSubtree,
+}
+
 /// A search request (RFC 4511 4.5.1).
 #[derive(Drop)]
 pub struct SearchRequest {
     pub base: Octets,
-    /// 0 the base alone, 1 what stands immediately below it, 2 both and all below.
-    pub scope: u8,
+    pub scope: SearchScope,
     /// The most entries to be sent, 0 for no limit; up to 2,147,483,647.
     pub size: u32,
     /// Whether values are left out.

@@ -24,8 +24,8 @@ pub use ber_layout::ReadFault;
 pub use framing::frame;
 pub use kinds::{
     AddRequest, Auth, BindRequest, Change, CompareRequest, Control, DeleteRequest, Frame,
-    KindValues, LdapResult, MAX_CONTENT, Message, ModifyRequest, NoMemory, RenameRequest, Reply,
-    Request, SearchRequest,
+    KindValues, LdapResult, MAX_CONTENT, Message, ModifyOperation, ModifyRequest, NoMemory,
+    OtherOperation, RenameRequest, Reply, Request, SearchRequest, SearchScope,
 };
 pub use ldap_filter;
 pub use ldap_filter::{Filter, Node};

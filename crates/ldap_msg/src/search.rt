@@ -1,12 +1,12 @@
 //! Search requests (RFC 4511 4.5.1).
 
-ghost use Rattle.std.specs.Prelude.{◌≡◌, ◌++◌, OnOk};
+ghost use Rattle.std.specs.Prelude.{◌≡◌, ◌≤◌, ◌++◌, OnOk};
 ghost use Rattle.ber_layout.specs.Layouts.{writes};
 ghost use Rattle.ber_layout.specs.element.Reading.{Gives};
 ghost use Rattle.ber_layout.specs.Spellings.{Extends};
-ghost use Rattle.ldap_msg.specs.Search.{search_layout, limits_layout, search_of, search_parts};
+ghost use Rattle.ldap_msg.specs.Search.{scope_number, scope_from, is_base, search_layout, limits_layout, search_of, search_parts};
 
-use crate::kinds::{NoMemory, SearchRequest};
+use crate::kinds::{NoMemory, SearchRequest, SearchScope};
 use crate::reading::MAX_ID;
 use ber_layout::{
     ReadFault, any, flag, integer, is_further, octets_list, put_element, put_flag, put_number,
@@ -15,6 +15,43 @@ use ber_layout::{
 use ldap_filter::{put_filter, read_filter};
 use plain_values::Octets;
 use std::alloc::Global;
+
+impl SearchScope {
+    /// The scope's number.
+    pub fn number(self) -> u8
+        ensures exact { result ≡ scope_number self }
+        ensures range { result ≤ 2 }
+    {
+        match self {
+            SearchScope::BaseObject => 0,
+            SearchScope::SingleLevel => 1,
+            SearchScope::WholeSubtree => 2,
+        }
+    }
+
+    /// Whether it is the base object alone.
+    pub fn is_base(self) -> bool
+        ensures { result ≡ is_base self }
+    {
+        match self {
+            SearchScope::BaseObject => true,
+            SearchScope::SingleLevel | SearchScope::WholeSubtree => false,
+        }
+    }
+
+    /// The scope of a number up to 2.
+    pub fn of(number: u32) -> SearchScope
+        requires { number ≤ 2 }
+        ensures exact { result ≡ scope_from number }
+        ensures back { scope_number result ≡ number }
+    {
+        match number {
+            0 => SearchScope::BaseObject,
+            1 => SearchScope::SingleLevel,
+            _ => SearchScope::WholeSubtree,
+        }
+    }
+}
 
 /// The search that a content says.
 #[tactic(auto, unfolding(ber_layout::specs::Layouts::reads_into))]
@@ -35,7 +72,7 @@ pub fn search(alloc: Global, content: &[u8]) -> Result<SearchRequest, ReadFault>
     let filter = read_filter(alloc, element.tag, element.content)?;
     Ok(SearchRequest {
         base: base.value,
-        scope: scope.value as u8,
+        scope: SearchScope::of(scope.value),
         size: size.value,
         kinds_only: kinds_only.value,
         filter,
@@ -60,7 +97,7 @@ pub fn put_search(out: &mut Vec<u8>, search: &SearchRequest) -> Result<(), NoMem
     ensures kept { Extends out.old.items out.new.items }
 {
     put_element(out, 0x04, search.base.as_slice())?;
-    put_number(out, 0x0a, u32::from(search.scope))?;
+    put_number(out, 0x0a, u32::from(search.scope.number()))?;
     put_number(out, 0x0a, 0)?;
     put_limits(out, search)
 }

@@ -14,7 +14,10 @@ use Rattle.dir_tree.specs.Entry.{EntryInformation}
 use Rattle.acdf_filters.specs.declared.asking.Requester.{Requester}
 use Rattle.entry_changes.specs.declared.kind.ChangeKind.TheVariants as kind
 use Rattle.ldap_msg.specs.declared.operations.ResultCode.TheVariants as code
+use Rattle.ldap_msg.specs.declared.kinds.ModifyOperation.{ModifyOperation}
+use Rattle.ldap_msg.specs.declared.kinds.ModifyOperation.TheVariants.{Add, Delete, Replace}
 use Rattle.ldap_msg.specs.declared.kinds.Change.{Change}
+use Rattle.ldap_msg.specs.Attributes.{operation_from}
 use Rattle.read_model.specs.Views.{result_of}
 use Rattle.op_add_delete.specs.reading.NewEntries.{read_values, repeats}
 use Rattle.op_add_delete.specs.adding.Updates.{Refused}
@@ -42,27 +45,27 @@ bare : RdnSequence → EntryInformation
 bare name = record { name = name; attributes = [] }
 
 -- a change as a request gives it
-given : ℕ → List ℕ → List (List ℕ) → Change
+given : ModifyOperation → List ℕ → List (List ℕ) → Change
 given operation kind values = record { operation = operation; body = record { kind = kind; values = values } }
 
 -- an add must bring values, and a fourth operation is none; a delete and a replace may come without values
-an_add_of_nothing : is_no_change (given 0 (codes "cn") []) ≡ true
+an_add_of_nothing : is_no_change (given Add (codes "cn") []) ≡ true
 unfolding given
 an_add_of_nothing = refl
 
-an_increment : is_no_change (given 3 (codes "cn") (codes "1" ∷ [])) ≡ true
+an_increment : is_no_change (given (operation_from 3) (codes "cn") (codes "1" ∷ [])) ≡ true
 unfolding given
 an_increment = refl
 
-a_delete_of_all : is_no_change (given 1 (codes "cn") []) ≡ false
+a_delete_of_all : is_no_change (given Delete (codes "cn") []) ≡ false
 unfolding given
 a_delete_of_all = refl
 
-a_replace_by_nothing : is_no_change (given 2 (codes "cn") []) ≡ false
+a_replace_by_nothing : is_no_change (given Replace (codes "cn") []) ≡ false
 unfolding given
 a_replace_by_nothing = refl
 
-the_three : (change_of 0 ≡ kind.Add) × (change_of 1 ≡ kind.Delete) × (change_of 2 ≡ kind.Replace)
+the_three : (change_of (operation_from 0) ≡ kind.Add) × (change_of (operation_from 1) ≡ kind.Delete) × (change_of (operation_from 2) ≡ kind.Replace)
 the_three = (refl, refl, refl)
 
 -- no change at all is none to be refused
@@ -71,20 +74,20 @@ unfolding read_changes read_each
 no_changes = refl
 
 -- an operation that is none comes before an unknown type that comes earlier
-an_operation_first : read_changes (given 2 (codes "zz") [] ∷ given 3 (codes "cn") [] ∷ []) ≡ Err code.ProtocolError
+an_operation_first : read_changes (given Replace (codes "zz") [] ∷ given (operation_from 3) (codes "cn") [] ∷ []) ≡ Err code.ProtocolError
 unfolding given read_changes
 an_operation_first = refl
 
-an_unknown_type : read_changes (given 2 (codes "zz") [] ∷ []) ≡ Err code.UndefinedAttributeType
+an_unknown_type : read_changes (given Replace (codes "zz") [] ∷ []) ≡ Err code.UndefinedAttributeType
 unfolding given read_changes read_each attributes
 an_unknown_type = refl
 
 -- two values of one change may not match; those of two changes may
-equal_values : read_changes (given 2 (codes "userPassword") (codes "x" ∷ codes "x" ∷ []) ∷ []) ≡ Err code.AttributeOrValueExists
+equal_values : read_changes (given Replace (codes "userPassword") (codes "x" ∷ codes "x" ∷ []) ∷ []) ≡ Err code.AttributeOrValueExists
 unfolding given read_changes read_each read_values repeats attributes is_utf8 encode chars value_of key_of is_of
 equal_values = refl
 
-values_of_two_changes : read_changes (given 1 (codes "userPassword") (codes "x" ∷ []) ∷ given 0 (codes "2.5.4.35") (codes "x" ∷ []) ∷ [])
+values_of_two_changes : read_changes (given Delete (codes "userPassword") (codes "x" ∷ []) ∷ given Add (codes "2.5.4.35") (codes "x" ∷ []) ∷ [])
     ≡ Ok (record { change = kind.Delete; kind = 18; values = plain_value (codes "x") ∷ [] } ∷ record { change = kind.Add; kind = 18; values = plain_value (codes "x") ∷ [] } ∷ [])
 unfolding plain_value given read_changes read_each read_values repeats attributes is_utf8 encode chars value_of key_of is_of
 values_of_two_changes = refl

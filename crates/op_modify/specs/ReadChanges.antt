@@ -1,6 +1,6 @@
 -- The changes that a modify request lists (RFC 4511 4.6), read in their order. An operation beyond the three, as the
 -- increment of RFC 4525, is none here.
-use Rattle.std.specs.Prelude.{ℕ, nat_lt, ◌==◌, Bool, ◌||◌, ◌&&◌, List, [], ◌∷◌, length, Result, Ok, Err, if◌then◌else◌}
+use Rattle.std.specs.Prelude.{ℕ, ◌==◌, Bool, true, false, List, [], ◌∷◌, length, Result, Ok, Err, if◌then◌else◌}
 use Rattle.std.specs.List.{list_any}
 use Rattle.ldap_msg.specs.plain_values.Results.{◌>>=◌}
 use Rattle.dir_tree.specs.Entry.{Attribute, is_match}
@@ -9,16 +9,28 @@ use Rattle.entry_changes.specs.declared.kind.ChangeKind.TheVariants as kind
 use Rattle.entry_changes.specs.Change.{Modification}
 use Rattle.ldap_msg.specs.declared.operations.ResultCode.{ResultCode}
 use Rattle.ldap_msg.specs.declared.operations.ResultCode.TheVariants as code
+use Rattle.ldap_msg.specs.declared.kinds.ModifyOperation.{ModifyOperation}
+use Rattle.ldap_msg.specs.declared.kinds.ModifyOperation.TheVariants.{Add, Delete, Replace, Other}
 use Rattle.ldap_msg.specs.declared.kinds.Change.{Change}
 use Rattle.op_add_delete.specs.reading.NewEntries.{read_attribute, repeats}
 
--- no change that a request may ask for: another operation than the three, or an add of nothing
-abbrev pub is_no_change : Change → Bool
-is_no_change given = nat_lt 2 given.operation || ((given.operation == 0) && (length given.body.values == 0))
+-- the operation asks for nothing by these values: an add of no value, and another operation than the three
+abbrev pub asks_nothing : ModifyOperation → List (List ℕ) → Bool
+asks_nothing Add values = length values == 0
+asks_nothing Delete values = false
+asks_nothing Replace values = false
+asks_nothing (Other other) values = true
 
--- what an operation's number asks for
-abbrev pub change_of : ℕ → ChangeKind
-change_of operation = if operation == 0 then kind.Add else if operation == 1 then kind.Delete else kind.Replace
+-- no change that a request may ask for
+abbrev pub is_no_change : Change → Bool
+is_no_change given = asks_nothing given.operation given.body.values
+
+-- what an operation asks for; another than the three is refused before it is read
+abbrev pub change_of : ModifyOperation → ChangeKind
+change_of Add = kind.Add
+change_of Delete = kind.Delete
+change_of Replace = kind.Replace
+change_of (Other other) = kind.Replace
 
 -- the change with the values of the attribute, of which no two may match
 abbrev pub change_with : ChangeKind → Attribute → Result Modification ResultCode

@@ -7,7 +7,7 @@ ghost use Rattle.op_add_delete.specs.reading.Reading.{cause_of, attribute_of};
 ghost use Rattle.op_modify.specs.ReadChanges.{is_no_change, change_of, change_with, read_change, read_each, read_changes};
 
 use entry_changes::{ChangeKind, EntryChange};
-use ldap_msg::{Change, ResultCode};
+use ldap_msg::{Change, ModifyOperation, ResultCode};
 use op_add_delete::{Fault, Given, read_attribute, repeats};
 use std::alloc::Global;
 
@@ -15,7 +15,11 @@ use std::alloc::Global;
 fn is_no_change(given: &Change) -> bool
     ensures exact { result ≡ is_no_change given.now }
 {
-    given.operation > 2 || (given.operation == 0 && given.body.values.is_empty())
+    match given.operation {
+        ModifyOperation::Add => given.body.values.is_empty(),
+        ModifyOperation::Delete | ModifyOperation::Replace => false,
+        ModifyOperation::Other(_) => true,
+    }
 }
 
 // Whether one of them is none.
@@ -25,16 +29,14 @@ fn any_is_no_change(given: &[Change]) -> bool
     given.iter().any(|change| is_no_change(change))
 }
 
-// What the operation's number asks for.
-fn change_of(operation: u8) -> ChangeKind
+// What the operation asks for; another than the three is refused before it is read.
+fn change_of(operation: ModifyOperation) -> ChangeKind
     ensures exact { result ≡ change_of operation }
 {
-    if operation == 0 {
-        ChangeKind::Add
-    } else if operation == 1 {
-        ChangeKind::Delete
-    } else {
-        ChangeKind::Replace
+    match operation {
+        ModifyOperation::Add => ChangeKind::Add,
+        ModifyOperation::Delete => ChangeKind::Delete,
+        ModifyOperation::Replace | ModifyOperation::Other(_) => ChangeKind::Replace,
     }
 }
 

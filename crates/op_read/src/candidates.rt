@@ -140,7 +140,7 @@ pub(crate) fn candidates_of<D: Dir>(
         (D.rows asking.now.dir.now) asking.now.who.now
         (scoped (scope_of search.now.request.now.scope) number.0 (D.rows asking.now.dir.now))) }
 {
-    if search.request.scope == 0 {
+    if search.request.scope.is_base() {
         return None;
     }
     let holders = holders(alloc, asking, search)?;

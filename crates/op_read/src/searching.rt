@@ -188,7 +188,7 @@ pub(crate) fn put_root_replies<D: Dir>(
         asked.entry.subentries)) }
     ensures kept { Extends out.old.items out.new.items }
 {
-    if asked.request.scope != 0 {
+    if !asked.request.scope.is_base() {
         return put_done(asked.id, result_of(alloc, ResultCode::NoSuchObject), out);
     }
     put_root(alloc, asking, asked, out)?;

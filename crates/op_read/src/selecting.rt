@@ -11,23 +11,26 @@ use acdf_filters::aci_item::Permission;
 use dir_tree::dn_names::Dn;
 use dir_tree::{Entry, EntryNo, Scope, Walk};
 use directory::{Asking, Dir};
+use ldap_msg::SearchScope;
 use page_core::read_model::filter_match::{Prepared, is_true};
 
-/// The scope of the number (RFC 4511 4.5.1.2).
-pub(crate) fn scope_of(number: u8) -> Scope
-    ensures exact { result ≡ scope_of number }
+/// The scope of the walk over the tree that a search is over (RFC 4511 4.5.1.2).
+pub(crate) fn scope_of(scope: SearchScope) -> Scope
+    ensures exact { result ≡ scope_of scope }
 {
-    if number == 0 {
-        Scope::Base
-    } else if number == 1 {
-        Scope::One
-    } else {
-        Scope::Sub
+    match scope {
+        SearchScope::BaseObject => Scope::Base,
+        SearchScope::SingleLevel => Scope::One,
+        SearchScope::WholeSubtree => Scope::Sub,
     }
 }
 
 /// The walk over the entries of the scope, from the entry of the number on.
-pub(crate) fn walk_from<'a, D: Dir>(asking: &Asking<'a, D>, scope: u8, number: EntryNo) -> Walk<'a>
+pub(crate) fn walk_from<'a, D: Dir>(
+    asking: &Asking<'a, D>,
+    scope: SearchScope,
+    number: EntryNo,
+) -> Walk<'a>
     ensures exact { result ≡ scoped (scope_of scope) number.0 (D.rows asking.now.dir.now) }
 {
     asking.dir.tree().below(number, scope_of(scope))
@@ -36,7 +39,7 @@ pub(crate) fn walk_from<'a, D: Dir>(asking: &Asking<'a, D>, scope: u8, number: E
 /// The walk over those of them whose names come after the name: what comes before is not walked over.
 pub(crate) fn walk_after<'a, D: Dir>(
     asking: &Asking<'a, D>,
-    scope: u8,
+    scope: SearchScope,
     number: EntryNo,
     after: &Dn,
 ) -> Walk<'a>
@@ -49,11 +52,11 @@ pub(crate) fn walk_after<'a, D: Dir>(
 }
 
 /// Whether a search of the scope sees the entry, by the control of subentries (RFC 3672 3).
-pub(crate) fn is_seen(scope: u8, subentries: Option<bool>, entry: &Entry) -> bool
+pub(crate) fn is_seen(scope: SearchScope, subentries: Option<bool>, entry: &Entry) -> bool
     ensures exact { result ≡ is_seen scope subentries entry.now }
 {
     match subentries {
-        None => scope == 0 || !entry.is_subentry(),
+        None => scope.is_base() || !entry.is_subentry(),
         Some(true) => entry.is_subentry(),
         Some(false) => !entry.is_subentry(),
     }

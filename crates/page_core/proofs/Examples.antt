@@ -18,6 +18,7 @@ use Rattle.dir_tree.specs.dn_names.Reading.{written_of}
 use Rattle.dir_tree.specs.dn_names.Resolving.{resolve}
 use Rattle.dir_tree.specs.dn_names.parsing.NameText.{read_name}
 use Rattle.ldap_msg.specs.ldap_filter.filter.Filters.Filter.{Present}
+use Rattle.ldap_msg.specs.declared.kinds.SearchScope.TheVariants.{WholeSubtree}
 use Rattle.ldap_msg.specs.declared.kinds.SearchRequest.{SearchRequest}
 use Rattle.ldap_msg.specs.declared.kinds.Reply.{Reply}
 use Rattle.ldap_msg.specs.declared.kinds.Reply.TheVariants as reply
@@ -103,7 +104,7 @@ abbrev third : Row
 third = allowed (rdn "t" ∷ rdn "c" ∷ [])
 
 abbrev asked : SearchRequest
-asked = record { base = []; scope = 2; size = 0; kinds_only = false; filter = Present (codes "objectClass"); selection = [] }
+asked = record { base = []; scope = WholeSubtree; size = 0; kinds_only = false; filter = Present (codes "objectClass"); selection = [] }
 
 -- a cookie is the printed name of the last entry that is sent, and there is none where no more are left
 more_left : next_cookie 2 (allowed top ∷ first ∷ third ∷ []) ≡ codes "cn=a,cn=t"

@@ -7,6 +7,7 @@ use Rattle.dir_tree.specs.dn_names.name.Names.{TypeAndValue, RdnSequence}
 use Rattle.dir_tree.specs.dn_names.NameOrder.{name_cmp}
 use Rattle.dir_tree.specs.dn_names.Printing.{print_value, print_by, print_name}
 use Rattle.ldap_msg.specs.ldap_filter.filter.Filters.Filter.{Present}
+use Rattle.ldap_msg.specs.declared.kinds.SearchScope.TheVariants.{WholeSubtree}
 use Rattle.ldap_msg.specs.declared.kinds.SearchRequest.{SearchRequest}
 use Rattle.ldap_msg.specs.declared.kinds.Reply.{Reply}
 use Rattle.ldap_msg.specs.declared.kinds.Reply.TheVariants as reply
@@ -62,7 +63,7 @@ abbrev rows : View
 rows = first ∷ second ∷ third ∷ []
 
 abbrev asked : SearchRequest
-asked = record { base = []; scope = 2; size = 0; kinds_only = false; filter = Present (codes "objectClass"); selection = [] }
+asked = record { base = []; scope = WholeSubtree; size = 0; kinds_only = false; filter = Present (codes "objectClass"); selection = [] }
 
 -- a page of two from the start, and the one behind its cookie's name
 from_the_start : page_of_rows asked 2 (filter (is_after []) rows)

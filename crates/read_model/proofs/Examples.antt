@@ -12,7 +12,8 @@ use Rattle.acdf_filters.specs.aci_item.Permission.{is_same as is_same_permission
 use Rattle.acdf_filters.specs.Asking.{Protected}
 use Rattle.read_model.specs.Views.{Row, View, matched_name, discloses, result_of, hidden}
 use Rattle.ldap_msg.specs.declared.operations.ResultCode.TheVariants as code
-use Rattle.read_model.specs.Selecting.{takes_in, is_seen}
+use Rattle.ldap_msg.specs.declared.kinds.SearchScope.TheVariants.{SingleLevel}
+use Rattle.read_model.specs.Selecting.{takes_in}
 use Rattle.read_model.specs.Choosing.{is_chosen}
 use Rattle.read_model.specs.CompareReplies.{compared}
 
@@ -68,11 +69,11 @@ unfolding hidden name_cmp is_same
 refused_openly = refl
 
 -- scopes: the base, what is immediately below it, and all
-one_level : takes_in 1 top (entry below) ≡ true
+one_level : takes_in SingleLevel top (entry below) ≡ true
 unfolding name_cmp is_same is_prefix_of
 one_level = refl
 
-not_the_base : takes_in 1 top (entry top) ≡ false
+not_the_base : takes_in SingleLevel top (entry top) ≡ false
 unfolding name_cmp is_same is_prefix_of
 not_the_base = refl
 

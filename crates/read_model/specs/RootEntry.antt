@@ -12,6 +12,7 @@ use Rattle.ldap_msg.specs.ldap_filter.filter.Filters.Filter.{And, Or, Not, Equal
 use Rattle.ldap_msg.specs.declared.operations.ResultCode.TheVariants as code
 use Rattle.ldap_msg.specs.declared.kinds.KindValues.{KindValues}
 use Rattle.ldap_msg.specs.declared.kinds.SearchRequest.{SearchRequest}
+use Rattle.ldap_msg.specs.Search.{is_base}
 use Rattle.ldap_msg.specs.declared.kinds.Reply.{Reply}
 use Rattle.ldap_msg.specs.declared.kinds.Reply.TheVariants as reply
 use Rattle.read_model.specs.Views.{Row, View, result_of}
@@ -84,6 +85,6 @@ finds_root request subentries = asks_for_root request.filter && not (asks_subent
 -- a search of the empty name: no entry of the tree has it, so scopes but the base alone find nothing
 unfoldable pub root_replies : View → SearchRequest → Option Bool → List Reply
 root_replies view request subentries =
-    if request.scope == 0
+    if is_base request.scope
     then (if finds_root request subentries then root_entry view request ∷ [] else []) ++ reply.Done (result_of code.Success) ∷ []
     else reply.Done (result_of code.NoSuchObject) ∷ []

@@ -1,5 +1,5 @@
 -- Which entries a search selects (RFC 4511 4.5.1, X.511 10.2).
-use Rattle.std.specs.Prelude.{ℕ, ◌==◌, Bool, not, ◌&&◌, ◌||◌, filter, Option, Some, None, if◌then◌else◌}
+use Rattle.std.specs.Prelude.{Bool, not, ◌&&◌, ◌||◌, filter, Option, Some, None, if◌then◌else◌}
 use Rattle.dir_tree.specs.dn_names.name.Names.{RdnSequence}
 use Rattle.dir_tree.specs.Entry.{EntryInformation}
 use Rattle.dir_tree.specs.tree.Trees.{is_named}
@@ -8,14 +8,18 @@ use Rattle.dir_tree.specs.Scope.{is_child, is_within}
 use Rattle.acdf_filters.specs.aci_item.declared.permission.Permission.TheVariants.{Browse, ReturnDn, FilterMatch}
 use Rattle.acdf_filters.specs.Asking.{Entry, Kind, Value}
 use Rattle.ldap_msg.specs.ldap_filter.filter.Filters.{Filter}
+use Rattle.ldap_msg.specs.declared.kinds.SearchScope.{SearchScope}
+use Rattle.ldap_msg.specs.declared.kinds.SearchScope.TheVariants.{BaseObject, SingleLevel, WholeSubtree}
 use Rattle.ldap_msg.specs.declared.kinds.SearchRequest.{SearchRequest}
+use Rattle.ldap_msg.specs.Search.{is_base}
 use Rattle.filter_match.specs.Truth.{Permits, truth, is_true}
 use Rattle.read_model.specs.Views.{Row, View}
 
--- the scope takes the entry in: baseObject 0, singleLevel 1, wholeSubtree 2
-abbrev pub takes_in : ℕ → RdnSequence → EntryInformation → Bool
-takes_in scope base entry =
-    if scope == 0 then is_named base entry else if scope == 1 then is_child base entry else is_within base entry
+-- the scope takes the entry in
+abbrev pub takes_in : SearchScope → RdnSequence → EntryInformation → Bool
+takes_in BaseObject base entry = is_named base entry
+takes_in SingleLevel base entry = is_child base entry
+takes_in WholeSubtree base entry = is_within base entry
 
 -- whether a boolean is another
 abbrev pub is_same : Bool → Bool → Bool
@@ -23,8 +27,8 @@ is_same one other = if one then other else not other
 
 -- without the control of subentries (RFC 3672 3) they are seen by a search of the base alone; with it either they alone
 -- are, or the other entries alone
-abbrev pub is_seen : ℕ → Option Bool → EntryInformation → Bool
-is_seen scope None entry = (scope == 0) || not (is_subentry entry)
+abbrev pub is_seen : SearchScope → Option Bool → EntryInformation → Bool
+is_seen scope None entry = is_base scope || not (is_subentry entry)
 is_seen scope (Some wanted) entry = is_same wanted (is_subentry entry)
 
 -- what a filter may match on the entry

@@ -6,6 +6,7 @@ use Rattle.ldap_msg.specs.ldap_filter.filter.Filters.Filter.{Present}
 use Rattle.ldap_msg.specs.declared.kinds.Message.{Message}
 use Rattle.ldap_msg.specs.declared.kinds.Auth.TheVariants as auth
 use Rattle.ldap_msg.specs.declared.kinds.Request.TheVariants as request
+use Rattle.ldap_msg.specs.declared.kinds.SearchScope.TheVariants.{BaseObject}
 use Rattle.ldap_msg.specs.reading.Messages.{request_octets}
 use Rattle.sample_input.specs.SampleFile.{person_name}
 
@@ -18,7 +19,7 @@ sample_bind = record { id = 1; request = request.Bind (record { version = 3; nam
 abbrev pub sample_search : ℕ → Message
 sample_search number = record {
   id = number + 1;
-  request = request.Search (record { base = person_name number; scope = 0; size = 0; kinds_only = false; filter = Present (codes "objectClass"); selection = [] });
+  request = request.Search (record { base = person_name number; scope = BaseObject; size = 0; kinds_only = false; filter = Present (codes "objectClass"); selection = [] });
   controls = [];
 }
 

@@ -10,7 +10,7 @@ ghost use Rattle.sample_input.specs.SampleEvents.{sample_bind, sample_search, sa
 
 use crate::file::person_name;
 use ldap_msg::ldap_filter::{Filter, Node};
-use ldap_msg::{Auth, BindRequest, Message, Request, SearchRequest, put_request};
+use ldap_msg::{Auth, BindRequest, Message, Request, SearchRequest, SearchScope, put_request};
 use script_text::ScriptEvent;
 use script_text::plain_values::{Octets, OneOrMany};
 use std::alloc::{AllocError, Global};
@@ -53,7 +53,7 @@ fn sample_search(alloc: Global, number: u32, name: String, filter: Filter) -> Me
 {
     let search = SearchRequest {
         base: Octets::from_vec(name.into_bytes()),
-        scope: 0,
+        scope: SearchScope::BaseObject,
         size: 0,
         kinds_only: false,
         filter,

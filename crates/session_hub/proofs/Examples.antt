@@ -23,6 +23,7 @@ use Rattle.dir_tree.specs.dn_names.Reading.{written_of}
 use Rattle.dir_tree.specs.dn_names.Printing.{print_value, print_by, print_name}
 use Rattle.session_model.specs.ldap_msg.declared.kinds.Control.{Control}
 use Rattle.session_model.specs.ldap_filter.filter.Filters.{Present}
+use Rattle.session_model.specs.ldap_msg.declared.kinds.SearchScope.TheVariants.{BaseObject}
 use Rattle.session_model.specs.ldap_msg.declared.kinds.SearchRequest.{SearchRequest}
 use Rattle.op_read.specs.aci_item.declared.level.Level.TheVariants as level
 use Rattle.op_read.specs.read_model.Views.{result_of}
@@ -149,7 +150,7 @@ control_followed = refl
 
 -- a search with a critical control that isn't known, and one whose controls can't be read
 abbrev a_search : SearchRequest
-a_search = record { base = []; scope = 0; size = 0; kinds_only = false; filter = Present []; selection = [] }
+a_search = record { base = []; scope = BaseObject; size = 0; kinds_only = false; filter = Present []; selection = [] }
 
 critical_search : answered [] nobody (record { kind = other_kind; critical = true; value = None } ∷ []) (request.Search a_search)
     ≡ record { replies = reply.Done (result_of code.UnavailableCriticalExtension) ∷ []; cookie = None; changes = []; entries = []; who = nobody }

@@ -19,6 +19,7 @@ use Rattle.acdf_filters.specs.Filters.{decided}
 use Rattle.acdf_filters.specs.Granted.{granted}
 use Rattle.ldap_msg.specs.ldap_filter.filter.Filters.Filter.{Present}
 use Rattle.ldap_msg.specs.declared.operations.ResultCode.TheVariants as code
+use Rattle.ldap_msg.specs.declared.kinds.SearchScope.TheVariants.{WholeSubtree}
 use Rattle.ldap_msg.specs.declared.kinds.SearchRequest.{SearchRequest}
 use Rattle.ldap_msg.specs.declared.kinds.Reply.{Reply}
 use Rattle.ldap_msg.specs.declared.kinds.Reply.TheVariants as reply
@@ -135,7 +136,7 @@ one_permission_shows = refl
 
 -- a search of a hidden entry is answered as one of no entry, with the name above that may be known of
 abbrev asked : SearchRequest
-asked = record { base = []; scope = 2; size = 0; kinds_only = false; filter = Present (codes "objectClass"); selection = [] }
+asked = record { base = []; scope = WholeSubtree; size = 0; kinds_only = false; filter = Present (codes "objectClass"); selection = [] }
 
 abbrev refusal : List Reply
 refusal = reply.Done (result_with code.NoSuchObject suffix) ∷ []

@@ -1,5 +1,5 @@
 -- Lemmas on the lines of a modify, read again.
-use Rattle.std.proofs.Common.{◌≡◌, ℕ, zero, suc, ◌+◌, ◌≤◌, sym, ◌∙◌, ap, refl, arith, true, false, List, [], ◌∷◌, ◌++◌, length, map, Option, Some, None, Result, Ok, Err}
+use Rattle.std.proofs.Common.{◌≡◌, ℕ, ◌+◌, sym, ◌∙◌, ap, refl, arith, true, false, List, [], ◌∷◌, ◌++◌, length, map, Option, Some, None, Result, Ok, Err}
 use Rattle.std.specs.Prelude.{codes}
 use Rattle.std.specs.List.{flat_map, AllByRecursion}
 use Rattle.std.proofs.lemmas.List.{append_assoc, append-nil}
@@ -7,6 +7,8 @@ use Rattle.base64.specs.GeneralPurpose.{IsBytes}
 use Rattle.dir_tree.specs.plain_values.Results.{◌>>=◌}
 use Rattle.dir_tree.specs.schema_tables.Naming.{is_keystring}
 use Rattle.dir_tree.proofs.base_laws_proofs.Theorems.{other_choice}
+use Rattle.ldap_msg.specs.declared.kinds.ModifyOperation.{ModifyOperation}
+use Rattle.ldap_msg.specs.declared.kinds.ModifyOperation.TheVariants.{Add, Delete, Replace, Other}
 use Rattle.ldap_msg.specs.declared.kinds.Change.{Change}
 use Rattle.ldif_records.specs.lines.Lines.{Line, numbered}
 use Rattle.ldif_records.specs.reading.Faults.{LineFault}
@@ -14,7 +16,7 @@ use Rattle.ldif_records.specs.Fields.{is_kind, is_changetype}
 use Rattle.ldif_records.proofs.Theorems.{attribute-says, is_kind-ascii}
 use Rattle.change_records.specs.Written.{row, operation_word, change_rows}
 use Rattle.change_records.specs.Reading.{is_hyphen, operation_named, change_with, and_value, going_on, ended_by, changes_in}
-use Rattle.change_records.specs.Writable.{IsWritableChange}
+use Rattle.change_records.specs.Writable.{is_standard, IsWritableChange}
 use Rattle.change_records.proofs.laws.KindLemmas.{keystring-kind}
 use Rattle.change_records.proofs.laws.LineLemmas.{row-says, value-read, row-hyphen}
 use Rattle.change_records.proofs.laws.RowsLemmas.{numbered-append}
@@ -63,25 +65,25 @@ values-go number at change (value ∷ values) more is are =
     (append_assoc change.body.values (value ∷ []) values)
 
 -- the line that begins a change
-record IsWord (operation : ℕ) : Type 0 where
+record IsWord (operation : ModifyOperation) : Type 0 where
   key : is_keystring (operation_word operation) ≡ true
   other : is_changetype (operation_word operation) ≡ false
   named : operation_named (operation_word operation) ≡ Some operation
 
-is-word : (operation : ℕ) → operation ≤ 2 → IsWord operation
+is-word : (operation : ModifyOperation) → is_standard operation ≡ true → IsWord operation
 unfolding is_changetype
-is-word zero within = record { key = refl; other = refl; named = refl }
-is-word (suc zero) within = record { key = refl; other = refl; named = refl }
-is-word (suc (suc zero)) within = record { key = refl; other = refl; named = refl }
-is-word (suc (suc (suc operation))) within = absurd (omega arith)
+is-word Add standard = record { key = refl; other = refl; named = refl }
+is-word Delete standard = record { key = refl; other = refl; named = refl }
+is-word Replace standard = record { key = refl; other = refl; named = refl }
+is-word (Other other) standard = absurd cc
 
 kind-bytes : (kind : List ℕ) → is_kind kind ≡ true → IsBytes kind
 kind-bytes kind is i = let low = is_kind-ascii kind is i in omega (arith, low)
 
-begins : (number operation : ℕ) (kind : List ℕ) → operation ≤ 2 → is_kind kind ≡ true
+begins : (number : ℕ) (operation : ModifyOperation) (kind : List ℕ) → is_standard operation ≡ true → is_kind kind ≡ true
     → going_on None (record { number = number; octets = row (operation_word operation) kind }) ≡ Ok (Some (record { operation = operation; body = record { kind = kind; values = [] } }))
-begins number operation kind within is =
-    let word = is-word operation within in
+begins number operation kind standard is =
+    let word = is-word operation standard in
     ap (λ read. (read >>= λ read. change_with number read.value (operation_named read.kind)) >>= λ change. Ok (Some change))
     (attribute-says number (operation_word operation) kind (row (operation_word operation) kind)
     (row-says (operation_word operation) kind (keystring-kind (operation_word operation) word.key) (kind-bytes kind is)) word.other)

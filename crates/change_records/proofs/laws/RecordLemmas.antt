@@ -1,12 +1,14 @@
 -- Lemmas on the record of a change, read again.
 use Rattle.std.proofs.Common.{◌≡◌, ℕ, zero, suc, ◌+◌, ◌==◌, ◌∙◌, ap, refl, arith, Bool, true, false, List, [], ◌∷◌, ◌++◌, length, map, Option, Some, None, Ok}
-use Rattle.std.specs.Prelude.{codes, nat_lt, slice_index, if◌then◌else◌}
+use Rattle.std.specs.Prelude.{codes, nat_lt, slice_index}
 use Rattle.std.specs.List.{flat_map, list_all, AllByRecursion}
 use Rattle.std.proofs.lemmas.Bool.{and_parts, ltb-true}
 use Rattle.std.proofs.lemmas.Bool.Decides.{nat_tests}
 use Rattle.base64.specs.GeneralPurpose.{IsBytes}
 use Rattle.dir_tree.specs.plain_values.Results.{◌>>=◌}
 use Rattle.ldap_msg.specs.declared.kinds.KindValues.{KindValues}
+use Rattle.ldap_msg.specs.declared.kinds.ModifyOperation.{ModifyOperation}
+use Rattle.ldap_msg.specs.declared.kinds.ModifyOperation.TheVariants.{Add, Delete, Replace, Other}
 use Rattle.ldap_msg.specs.declared.kinds.Change.{Change}
 use Rattle.ldap_msg.specs.declared.kinds.RenameRequest.{RenameRequest}
 use Rattle.ldap_msg.specs.declared.kinds.Request.{Request}
@@ -32,13 +34,11 @@ values-rows : (kind : List ℕ) (values : List (List ℕ)) → is_kind kind ≡ 
 values-rows kind [] is = tt
 values-rows kind (value ∷ values) is = (row-written kind value is, values-rows kind values is)
 
-word-row : (operation : ℕ) (kind : List ℕ) → IsWrittenRow (row (operation_word operation) kind)
-word-row operation kind = by (operation == 0) (operation == 1)
-  where
-    by : (add delete : Bool) → IsWrittenRow (row (if add then codes "add" else if delete then codes "delete" else codes "replace") kind)
-    by true delete = row-written (codes "add") kind (keystring-kind (codes "add") refl)
-    by false true = row-written (codes "delete") kind (keystring-kind (codes "delete") refl)
-    by false false = row-written (codes "replace") kind (keystring-kind (codes "replace") refl)
+word-row : (operation : ModifyOperation) (kind : List ℕ) → IsWrittenRow (row (operation_word operation) kind)
+word-row Add kind = row-written (codes "add") kind (keystring-kind (codes "add") refl)
+word-row Delete kind = row-written (codes "delete") kind (keystring-kind (codes "delete") refl)
+word-row Replace kind = row-written (codes "replace") kind (keystring-kind (codes "replace") refl)
+word-row (Other other) kind = row-written (codes "replace") kind (keystring-kind (codes "replace") refl)
 
 changes-rows : (changes : List Change) → AllByRecursion IsWritableChange changes → AllByRecursion IsWrittenRow (flat_map change_rows changes)
 changes-rows [] are = tt

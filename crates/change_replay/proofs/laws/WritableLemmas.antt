@@ -1,6 +1,5 @@
 -- What is applied can be written as a record.
-use Rattle.std.proofs.Common.{◌≡◌, ℕ, ◌==◌, ◌<◌, ◌≤◌, Bool, true, false, ◌||◌, List, [], ◌∷◌, length, if◌then◌else◌, Option, Some, None, Ok, Err, refl, sym, ap, subst, ◌∙◌, ◌⊎◌, inl, inr, arith}
-use Rattle.std.specs.Prelude.{nat_lt}
+use Rattle.std.proofs.Common.{◌≡◌, ℕ, ◌==◌, ◌<◌, Bool, true, false, ◌||◌, List, [], ◌∷◌, length, if◌then◌else◌, Option, Some, None, Ok, Err, refl, sym, ap, subst, ◌∙◌, ◌⊎◌, inl, inr, arith}
 use Rattle.std.specs.List.{AllByRecursion, list_any}
 use Rattle.std.specs.Str.{bytes_eq}
 use Rattle.std.proofs.lemmas.Bool.{cases_Bool, or_parts}
@@ -12,16 +11,18 @@ use Rattle.dir_tree.specs.schema_tables.Attributes.{attr_of}
 use Rattle.dir_tree.specs.Entry.{Attribute, EntryInformation, kinds_of, is_match}
 use Rattle.entry_changes.specs.Change.{Modification}
 use Rattle.op_add_delete.specs.reading.NewEntries.{read_values, read_known, read_attribute, read_each, repeats, has_twice, without_twice, lacks_values, read_attributes, new_entry}
-use Rattle.change_laws.specs.op_modify.ReadChanges.{is_no_change, change_of, change_with, read_change, read_changes, read_each as read_each_change}
+use Rattle.change_laws.specs.op_modify.ReadChanges.{asks_nothing, is_no_change, change_of, change_with, read_change, read_changes, read_each as read_each_change}
 use Rattle.change_laws.specs.op_modify.ldap_msg.declared.operations.ResultCode.{ResultCode}
 use Rattle.change_laws.specs.op_modify.ldap_msg.declared.kinds.KindValues.{KindValues}
+use Rattle.change_laws.specs.op_modify.ldap_msg.declared.kinds.ModifyOperation.{ModifyOperation}
+use Rattle.change_laws.specs.op_modify.ldap_msg.declared.kinds.ModifyOperation.TheVariants.{Add, Delete, Replace, Other}
 use Rattle.change_laws.specs.op_modify.ldap_msg.declared.kinds.Change.{Change}
 use Rattle.change_laws.specs.op_modify.ldap_msg.declared.kinds.AddRequest.{AddRequest}
 use Rattle.change_laws.specs.op_modify.ldap_msg.declared.kinds.ModifyRequest.{ModifyRequest}
 use Rattle.change_laws.specs.op_modify.ldap_msg.declared.kinds.Request.{Request}
 use Rattle.change_laws.specs.op_modify.ldap_msg.declared.kinds.Request.TheVariants as request
 use Rattle.change_records.specs.Laws.{WritesKnownTypes}
-use Rattle.change_records.specs.Writable.{IsWritableAttribute, IsWritableChange, IsWritableGiven, AreApart, IsWritable}
+use Rattle.change_records.specs.Writable.{IsWritableAttribute, is_standard, IsWritableChange, IsWritableGiven, AreApart, IsWritable}
 use Rattle.change_replay.specs.Applied.{numbered, name_in, with_changed_named, with_modified, applied_modify, with_new, with_named, applied_add, applied}
 use Rattle.change_replay.specs.Laws.{HasOctets, ChangesOctets, IsOfOctets}
 use Rattle.change_replay.proofs.laws.StepLemmas.{numbered-value}
@@ -39,10 +40,14 @@ known_by values (Some kind) attribute is =
 known-read : (given : KindValues) (attribute : Attribute) → read_attribute given ≡ Ok attribute → attr_of given.kind ≡ Some attribute.kind
 known-read given attribute is = known_by given.values (attr_of given.kind) attribute is
 
--- the tests on numbers
-small : (operation : ℕ) → nat_lt 2 operation ≡ false → operation ≤ 2
-small operation is = grind (arith, nat_tests)
+-- an operation that may be asked for is one of the three
+standard : (operation : ModifyOperation) (values : List (List ℕ)) → asks_nothing operation values ≡ false → is_standard operation ≡ true
+standard Add values asks = refl
+standard Delete values asks = refl
+standard Replace values asks = refl
+standard (Other other) values asks = absurd cc
 
+-- what isn't none is some
 filled : (count : ℕ) → (count == 0) ≡ false → 0 < count
 filled count is = grind (arith, nat_tests)
 
@@ -65,11 +70,10 @@ module _ (known : WritesKnownTypes) where
   changes-read [] changes none is octets = tt
   changes-read (one ∷ rest) changes none is octets =
       let parts = or_parts (is_no_change one) (list_any is_no_change rest) none in
-      let operation = or_parts (nat_lt 2 one.operation) _ parts.0 in
       let first = both_given (read_change one) (λ change. read_each_change rest >>= λ changes. Ok (change ∷ changes)) changes is in
       let later = both_given (read_each_change rest) (λ changes. Ok (first.0 ∷ changes)) changes first.2 in
       let body = both_given (read_attribute one.body) (change_with (change_of one.operation)) first.0 first.1 in (
-        record { operation = small one.operation operation.0; body = IsWritableAttribute-read one.body body.0 body.1 octets.0 },
+        record { operation = standard one.operation one.body.values parts.0; body = IsWritableAttribute-read one.body body.0 body.1 octets.0 },
         changes-read rest later.0 parts.1 later.1 octets.1,
       )
 

@@ -11,9 +11,10 @@ use Rattle.ber_elements.proofs.Theorems.{element_again}
 use Rattle.ldap_msg.specs.declared.kinds.Message.{Message}
 use Rattle.ldap_msg.specs.declared.kinds.Request.{Request}
 use Rattle.ldap_msg.specs.declared.kinds.Request.TheVariants as request
+use Rattle.ldap_msg.specs.declared.kinds.SearchScope.TheVariants.{BaseObject}
 use Rattle.ldap_msg.specs.declared.kinds.SearchRequest.{SearchRequest}
 use Rattle.ldap_msg.specs.operations.Operations.{request_tag}
-use Rattle.ldap_msg.specs.Search.{SaysSearch}
+use Rattle.ldap_msg.specs.Search.{scope_from, SaysSearch}
 use Rattle.ldap_msg.specs.reading.Contents.{operation_for, SaysContent}
 use Rattle.ldap_msg.specs.reading.Messages.{Says}
 use Rattle.fair_pieces.specs.Wide.{behind_header, behind_element, inside, past, begins_search, is_of_base, operation_in, scope_in, is_wide}
@@ -130,7 +131,7 @@ not_of_base content front rest number e i other =
       | inr away ↦ away
     ]
 
-scope_there : (search : SearchRequest) (content front rest : List ℕ) → Elem 0x63 content front → SaysSearch search content → search.scope ≢ 0
+scope_there : (search : SearchRequest) (content front rest : List ℕ) → Elem 0x63 content front → SaysSearch search content → search.scope ≢ BaseObject
     → is_of_base (scope_in (front ++ rest)) ≡ false
 scope_there search content front rest e s other =
     let k = s.says in
@@ -139,14 +140,14 @@ scope_there search content front rest e s other =
     inside_is 0x63 content front rest e ∙ ap (λ (t : List ℕ). t ++ rest) k.joins ∙ append_assoc k.front k.rest rest in
     let behind : scope_in (front ++ rest) ≡ k.rest ++ rest = ap past opened ∙ past_is 0x04 k.content k.front (k.rest ++ rest) k.element in
     let stands : scope_in (front ++ rest) ≡ m.front ++ (m.rest ++ rest) = behind ∙ ap (λ (t : List ℕ). t ++ rest) m.joins ∙ append_assoc m.front m.rest rest in
-    let number : s.parts.1.0 ≡ search.scope = ap (λ (t : SearchRequest). t.scope) s.is in
-    let away : s.parts.1.0 ≢ 0 = λ z. other (sym number ∙ z) in
+    let scope : scope_from s.parts.1.0 ≡ search.scope = ap (λ (t : SearchRequest). t.scope) s.is in
+    let away : s.parts.1.0 ≢ 0 = λ zero. other (sym scope ∙ ap scope_from zero) in
     ap is_of_base stands ∙ not_of_base m.content m.front (m.rest ++ rest) s.parts.1.0 m.element m.inner.stands away
 
 -- ---- the laws
 
 pub search_wide : (message : Message) (search : SearchRequest) (octets : List ℕ) → Says message octets → message.request ≡ request.Search search
-    → search.scope ≢ 0 → is_wide octets ≡ true
+    → search.scope ≢ BaseObject → is_wide octets ≡ true
 unfolding is_wide
 search_wide message search octets says is_search other =
     let o = operation_there message octets says in

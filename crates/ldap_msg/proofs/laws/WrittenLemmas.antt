@@ -13,6 +13,9 @@ use Rattle.ldap_msg.specs.declared.kinds.Auth.TheVariants.{Simple, Other}
 use Rattle.ldap_msg.specs.declared.kinds.BindRequest.{BindRequest}
 use Rattle.ldap_msg.specs.declared.kinds.Control.{Control}
 use Rattle.ldap_msg.specs.declared.kinds.KindValues.{KindValues}
+use Rattle.ldap_msg.specs.declared.kinds.SearchScope.{SearchScope}
+use Rattle.ldap_msg.specs.declared.kinds.SearchScope.TheVariants.{BaseObject, SingleLevel, WholeSubtree}
+use Rattle.ldap_msg.specs.declared.kinds.SearchRequest.{SearchRequest}
 use Rattle.ldap_msg.specs.declared.kinds.Request.{Request}
 use Rattle.ldap_msg.specs.declared.kinds.Request.TheVariants as request
 use Rattle.ldap_msg.specs.declared.kinds.Message.{Message}
@@ -20,7 +23,7 @@ use Rattle.ldap_msg.specs.declared.kinds.Reply.{Reply}
 use Rattle.ldap_msg.specs.declared.kinds.Reply.TheVariants as reply
 use Rattle.ldap_msg.specs.Binds.{bind_layout, bind_parts, bind_from, auth_parts, auth_from, HasTag}
 use Rattle.ldap_msg.specs.Kinds.{modify_layout, modify_parts, add_layout, add_parts, rename_layout, rename_parts, compare_layout, compare_parts, extended_layout, abandon_layout}
-use Rattle.ldap_msg.specs.Search.{search_layout, search_parts}
+use Rattle.ldap_msg.specs.Search.{scope_number, scope_from, search_layout, search_with, search_parts}
 use Rattle.ldap_filter.proofs.Theorems.{filter_spells, spelled}
 use Rattle.ldap_msg.specs.Controls.{control_parts, controls_from, controls_parts}
 use Rattle.ldap_msg.specs.reading.Contents.{SaysContent, content_octets}
@@ -40,6 +43,19 @@ bind_back bind has =
     let made : Auth → BindRequest = λ (auth : Auth). record { version = bind.version; name = bind.name; auth = auth } in
     ap made (auth_back bind.auth has)
 
+-- what is made of the number of a scope is the scope
+scope_back : (scope : SearchScope) → scope_from (scope_number scope) ≡ scope
+scope_back BaseObject = refl
+scope_back SingleLevel = refl
+scope_back WholeSubtree = refl
+
+-- what is made of the parts of a search is the search
+search_back : (search : SearchRequest) → search_with (search_parts search) search.filter ≡ search
+search_back search =
+    let made : SearchScope → SearchRequest =
+    λ (scope : SearchScope). record { base = search.base; scope = scope; size = search.size; kinds_only = search.kinds_only; filter = search.filter; selection = search.selection } in
+    ap made (scope_back search.scope)
+
 -- the written content of a request says it
 pub content_says : (asked : Request) → IsWithin asked → IsShort (content_octets asked) → SaysContent asked (content_octets asked)
 content_says (request.Bind bind) within short = record { parts = bind_parts bind; says = spelled bind_layout refl (bind_parts bind) within.0 short; is = bind_back bind within.1 }
@@ -51,7 +67,7 @@ content_says (request.Search search) within short =
       parts = search_parts search;
       says = writes_says search_layout (search_parts search) refl fits;
       filter = (filter, within.1);
-      is = refl;
+      is = search_back search;
     }
 content_says (request.Modify modify) within short =
     record { parts = modify_parts modify; says = spelled modify_layout refl (modify_parts modify) within short; is = modify_back modify }

@@ -1,6 +1,6 @@
 -- The entries that a search selects, by their numbers.
 use Rattle.std.proofs.Common.{◌≡◌, ◌⊎◌, inl, inr, ℕ, Bool, true, false, ◌&&◌, List, [], ◌∷◌, Option, Some, None, refl, sym, ap, ◌∙◌, map, filter, find}
-use Rattle.std.specs.Prelude.{◌==◌, is_some}
+use Rattle.std.specs.Prelude.{is_some}
 use Rattle.std.specs.List.{list_any}
 use Rattle.std.specs.Option.{option_map}
 use Rattle.std.proofs.lemmas.Bool.{cases_Bool}
@@ -12,10 +12,11 @@ use Rattle.dir_tree.specs.Entry.{EntryInformation}
 use Rattle.dir_tree.specs.tree.Trees.{is_named, named_in, is_before}
 use Rattle.dir_tree.specs.tree.Numbered.{Numbered, IsNumberedTree, entries_of, entries_at, entry_of, find_name}
 use Rattle.dir_tree.specs.Scope.{scoped, in_scope, scoped_after, in_scope_after, is_child, is_within}
-use Rattle.dir_tree.specs.declared.scope.Scope.{Scope}
 use Rattle.dir_tree.specs.declared.scope.Scope.TheVariants.{Base, One, Sub}
 use Rattle.dir_tree.proofs.TreeTheorems.{entries_at-kept, scoped-One-entries, scoped-Sub-entries, named-found, has_name-find, child_same}
 use Rattle.acdf_filters.specs.declared.asking.Requester.{Requester}
+use Rattle.ldap_msg.specs.declared.kinds.SearchScope.{SearchScope}
+use Rattle.ldap_msg.specs.declared.kinds.SearchScope.TheVariants.{BaseObject, SingleLevel, WholeSubtree}
 use Rattle.ldap_msg.specs.declared.kinds.SearchRequest.{SearchRequest}
 use Rattle.ldap_msg.specs.declared.kinds.Reply.TheVariants as reply
 use Rattle.page_core.specs.read_model.Views as views
@@ -40,39 +41,19 @@ base-entries id entry name rows tree known named =
     single : entries_at rows (id ∷ []) ≡ entry ∷ []
     single = rw known refl
 
--- the test of a scope is that of its number
-base-test : (scope : ℕ) (name : RdnSequence) → (scope == 0) ≡ true → (entry : EntryInformation) → takes_in scope name entry ≡ is_named name entry
-base-test scope name e entry = rw e refl
+-- an entry that is found by a name has it
+same-name : (name : RdnSequence) (entry : EntryInformation) (rows : List Numbered) → named_in name (entries_of rows) ≡ Some entry → is_same name entry.name ≡ true
+same-name name entry rows named = find-passes (is_named name) (entries_of rows) entry named
 
-one-test : (scope : ℕ) (name : RdnSequence) → (scope == 0) ≡ false → (scope == 1) ≡ true → (entry : EntryInformation) → takes_in scope name entry ≡ is_child name entry
-one-test scope name e f entry = rw (e, f) refl
-
-sub-test : (scope : ℕ) (name : RdnSequence) → (scope == 0) ≡ false → (scope == 1) ≡ false → (entry : EntryInformation) → takes_in scope name entry ≡ is_within name entry
-sub-test scope name e f entry = rw (e, f) refl
-
-scope-entries : (scope id : ℕ) (entry : EntryInformation) (name : RdnSequence) (rows : List Numbered) → IsNumberedTree rows → entry_of id rows ≡ Some entry → named_in name (entries_of rows) ≡ Some entry
+scope-entries : (scope : SearchScope) (id : ℕ) (entry : EntryInformation) (name : RdnSequence) (rows : List Numbered) → IsNumberedTree rows → entry_of id rows ≡ Some entry → named_in name (entries_of rows) ≡ Some entry
     → entries_at rows (scoped (scope_of scope) id rows) ≡ filter (takes_in scope name) (entries_of rows)
-scope-entries scope id entry name rows tree known named = by (cases_Bool (scope == 0)) (cases_Bool (scope == 1))
-  where
-    same : is_same name entry.name ≡ true
-    same = find-passes (is_named name) (entries_of rows) entry named
-
-    by : (((scope == 0) ≡ true) ⊎ ((scope == 0) ≡ false)) → (((scope == 1) ≡ true) ⊎ ((scope == 1) ≡ false)) → entries_at rows (scoped (scope_of scope) id rows) ≡ filter (takes_in scope name) (entries_of rows)
-    by (inl e) f =
-        let is : scope_of scope ≡ Base = rw e refl in
-        ap (λ (s : Scope). entries_at rows (scoped s id rows)) is
-        ∙ base-entries id entry name rows tree known named
-        ∙ sym (filter_agree (takes_in scope name) (is_named name) (base-test scope name e) (entries_of rows))
-    by (inr e) (inl f) =
-        let is : scope_of scope ≡ One = rw (e, f) refl in
-        ap (λ (s : Scope). entries_at rows (scoped s id rows)) is
-        ∙ scoped-One-entries id entry rows tree known
-        ∙ sym (filter_agree (takes_in scope name) (is_child entry.name) (λ x. one-test scope name e f x ∙ child_same name entry.name x same) (entries_of rows))
-    by (inr e) (inr f) =
-        let is : scope_of scope ≡ Sub = rw (e, f) refl in
-        ap (λ (s : Scope). entries_at rows (scoped s id rows)) is
-        ∙ scoped-Sub-entries id entry rows tree known
-        ∙ sym (filter_agree (takes_in scope name) (is_within entry.name) (λ x. sub-test scope name e f x ∙ within-like name entry.name same x) (entries_of rows))
+scope-entries BaseObject id entry name rows tree known named = base-entries id entry name rows tree known named
+scope-entries SingleLevel id entry name rows tree known named =
+    scoped-One-entries id entry rows tree known
+    ∙ sym (filter_agree (takes_in SingleLevel name) (is_child entry.name) (λ x. child_same name entry.name x (same-name name entry rows named)) (entries_of rows))
+scope-entries WholeSubtree id entry name rows tree known named =
+    scoped-Sub-entries id entry rows tree known
+    ∙ sym (filter_agree (takes_in WholeSubtree name) (is_within entry.name) (λ x. within-like name entry.name (same-name name entry rows named) x) (entries_of rows))
 
 -- a number that is found is in use
 in-use : (rows : List Numbered) → IsNumberedTree rows → (name : RdnSequence) (id : ℕ) → find_name name rows ≡ Some id → (entry : EntryInformation) × (entry_of id rows ≡ Some entry)
@@ -123,34 +104,19 @@ base-behind id entry name after rows tree known named =
     single (inl e) = rw (e, known) refl
     single (inr e) = rw e refl
 
-behind-entries : (scope id : ℕ) (entry : EntryInformation) (name after : RdnSequence) (rows : List Numbered) → IsNumberedTree rows → entry_of id rows ≡ Some entry → named_in name (entries_of rows) ≡ Some entry
+behind-entries : (scope : SearchScope) (id : ℕ) (entry : EntryInformation) (name after : RdnSequence) (rows : List Numbered) → IsNumberedTree rows → entry_of id rows ≡ Some entry → named_in name (entries_of rows) ≡ Some entry
     → entries_at rows (scoped_after (scope_of scope) id after rows) ≡ filter (λ entry. takes_in scope name entry && is_before after entry.name) (entries_of rows)
-behind-entries scope id entry name after rows tree known named = by (cases_Bool (scope == 0)) (cases_Bool (scope == 1))
-  where
-    same : is_same name entry.name ≡ true
-    same = find-passes (is_named name) (entries_of rows) entry named
-
-    by : (((scope == 0) ≡ true) ⊎ ((scope == 0) ≡ false)) → (((scope == 1) ≡ true) ⊎ ((scope == 1) ≡ false)) → entries_at rows (scoped_after (scope_of scope) id after rows) ≡ filter (λ entry. takes_in scope name entry && is_before after entry.name) (entries_of rows)
-    by (inl e) f =
-        let is : scope_of scope ≡ Base = rw e refl in
-        ap (λ (s : Scope). entries_at rows (scoped_after s id after rows)) is
-        ∙ base-behind id entry name after rows tree known named
-        ∙ sym (filter_agree (λ x. takes_in scope name x && is_before after x.name) (λ x. is_named name x && is_before after x.name)
-        (λ x. ap (λ takes. takes && is_before after x.name) (base-test scope name e x)) (entries_of rows))
-    by (inr e) (inl f) =
-        let is : scope_of scope ≡ One = rw (e, f) refl in
-        ap (λ (s : Scope). entries_at rows (scoped_after s id after rows)) is
-        ∙ ap (λ (found : Option EntryInformation). entries_at rows (in_scope_after One id found after rows)) known
-        ∙ entries_at-kept (λ x. is_child entry.name x && is_before after x.name) rows tree.distinct
-        ∙ sym (filter_agree (λ x. takes_in scope name x && is_before after x.name) (λ x. is_child entry.name x && is_before after x.name)
-        (λ x. ap (λ takes. takes && is_before after x.name) (one-test scope name e f x ∙ child_same name entry.name x same)) (entries_of rows))
-    by (inr e) (inr f) =
-        let is : scope_of scope ≡ Sub = rw (e, f) refl in
-        ap (λ (s : Scope). entries_at rows (scoped_after s id after rows)) is
-        ∙ ap (λ (found : Option EntryInformation). entries_at rows (in_scope_after Sub id found after rows)) known
-        ∙ entries_at-kept (λ x. is_within entry.name x && is_before after x.name) rows tree.distinct
-        ∙ sym (filter_agree (λ x. takes_in scope name x && is_before after x.name) (λ x. is_within entry.name x && is_before after x.name)
-        (λ x. ap (λ takes. takes && is_before after x.name) (sub-test scope name e f x ∙ within-like name entry.name same x)) (entries_of rows))
+behind-entries BaseObject id entry name after rows tree known named = base-behind id entry name after rows tree known named
+behind-entries SingleLevel id entry name after rows tree known named =
+    ap (λ (found : Option EntryInformation). entries_at rows (in_scope_after One id found after rows)) known
+    ∙ entries_at-kept (λ x. is_child entry.name x && is_before after x.name) rows tree.distinct
+    ∙ sym (filter_agree (λ x. takes_in SingleLevel name x && is_before after x.name) (λ x. is_child entry.name x && is_before after x.name)
+    (λ x. ap (λ takes. takes && is_before after x.name) (child_same name entry.name x (same-name name entry rows named))) (entries_of rows))
+behind-entries WholeSubtree id entry name after rows tree known named =
+    ap (λ (found : Option EntryInformation). entries_at rows (in_scope_after Sub id found after rows)) known
+    ∙ entries_at-kept (λ x. is_within entry.name x && is_before after x.name) rows tree.distinct
+    ∙ sym (filter_agree (λ x. takes_in WholeSubtree name x && is_before after x.name) (λ x. is_within entry.name x && is_before after x.name)
+    (λ x. ap (λ takes. takes && is_before after x.name) (within-like name entry.name (same-name name entry rows named) x)) (entries_of rows))
 
 -- three tests
 tests-three : (takes behind shown : Bool) → ((takes && behind) && shown) ≡ ((takes && shown) && behind)

@@ -8,6 +8,7 @@ use Rattle.dir_tree.specs.dn_names.parsing.NameText.{read_name}
 use Rattle.ldap_msg.specs.declared.operations.ResultCode.{ResultCode}
 use Rattle.ldap_msg.specs.declared.operations.ResultCode.TheVariants as code
 use Rattle.ldap_msg.specs.declared.kinds.SearchRequest.{SearchRequest}
+use Rattle.ldap_msg.specs.Search.{is_base}
 use Rattle.ldap_msg.specs.declared.kinds.Reply.{Reply}
 use Rattle.ldap_msg.specs.declared.kinds.Reply.TheVariants as reply
 use Rattle.ldap_msg.specs.declared.operations.Response.TheVariants as response
@@ -93,7 +94,7 @@ replies_at-done view request subentries base =
 root_replies-done : (view : View) (request : SearchRequest) (subentries : Option Bool) → AreDone (root_replies view request subentries)
 unfolding root_replies root_entry
 root_replies-done view request subentries =
-    by_test AreDone (request.scope == 0) _ _ (found (finds_root request subentries)) (alone (reply.Done (result_of code.NoSuchObject)) refl)
+    by_test AreDone (is_base request.scope) _ _ (found (finds_root request subentries)) (alone (reply.Done (result_of code.NoSuchObject)) refl)
   where
     found : (test : Bool) → AreDone ((if test then root_entry view request ∷ [] else []) ++ reply.Done (result_of code.Success) ∷ [])
     found true = record { entries = root_entry view request ∷ []; last = reply.Done (result_of code.Success); are = refl; each = (refl, tt); ends = refl }

@@ -8,6 +8,7 @@ use Rattle.dir_tree.specs.dn_names.name.Names.{RdnSequence, TypeAndValue}
 use Rattle.dir_tree.specs.dn_names.parsing.NameText.{read_name}
 use Rattle.dir_tree.specs.dn_names.declared.error.BadName.{BadName}
 use Rattle.session_model.specs.ldap_msg.declared.kinds.SearchRequest.{SearchRequest}
+use Rattle.session_model.specs.ldap_msg.Search.{is_base}
 use Rattle.session_model.specs.ldap_msg.declared.kinds.Request.{Request}
 use Rattle.session_model.specs.ldap_msg.declared.kinds.Request.TheVariants as request
 use Rattle.session_model.specs.ldap_msg.declared.kinds.Control.{Control}
@@ -108,7 +109,7 @@ root_sends view asked subentries some =
     let one : entries_among found ≤ length found = entries-le found in
     let short : length found ≤ 1 = one_at_most (finds_root asked subentries) (root_entry view asked) in
     let end : entries_among (found ++ reply.Done (result_of code.Success) ∷ []) ≡ entries_among found = entries-done found (result_of code.Success) in
-    either_sends (asked.scope == 0) (found ++ reply.Done (result_of code.Success) ∷ []) (reply.Done (result_of code.NoSuchObject) ∷ []) asked.size (omega arith) (omega arith)
+    either_sends (is_base asked.scope) (found ++ reply.Done (result_of code.Success) ∷ []) (reply.Done (result_of code.NoSuchObject) ∷ []) asked.size (omega arith) (omega arith)
   where
     one_at_most : (b : Bool) (entry : Reply) → length (if b then entry ∷ [] else []) ≤ 1
     one_at_most true entry = omega arith

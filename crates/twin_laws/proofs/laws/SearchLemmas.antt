@@ -1,5 +1,5 @@
 -- What a search is answered over a view without rows that show nothing: what it is answered over the view.
-use Rattle.std.proofs.Common.{◌≡◌, inl, inr, ℕ, ◌==◌, Bool, true, false, ◌&&◌, List, [], ◌∷◌, Option, Result, Ok, Err, refl, sym, ap, ◌∙◌, if◌then◌else◌}
+use Rattle.std.proofs.Common.{◌≡◌, inl, inr, Bool, true, false, ◌&&◌, List, [], ◌∷◌, Option, Result, Ok, Err, refl, sym, ap, ◌∙◌, if◌then◌else◌}
 use Rattle.std.specs.List.{list_any}
 use Rattle.std.proofs.lemmas.Bool.{cases_Bool, and_left, and_right, not-false}
 use Rattle.dir_tree.proofs.base_laws_proofs.Theorems.{all_map, all_filter, list_any-none, filter-none, filter-filter_kept}
@@ -13,6 +13,8 @@ use Rattle.acdf_filters.specs.Asking.{Entry}
 use Rattle.read_model.specs.filter_match.Truth.{truth, is_true}
 use Rattle.ldap_msg.specs.declared.operations.ResultCode.TheVariants as code
 use Rattle.ldap_msg.specs.declared.kinds.LdapResult.{LdapResult}
+use Rattle.ldap_msg.specs.declared.kinds.SearchScope.{SearchScope}
+use Rattle.ldap_msg.specs.declared.kinds.SearchScope.TheVariants.{BaseObject, SingleLevel, WholeSubtree}
 use Rattle.ldap_msg.specs.declared.kinds.SearchRequest.{SearchRequest}
 use Rattle.ldap_msg.specs.declared.kinds.Reply.{Reply}
 use Rattle.ldap_msg.specs.declared.kinds.Reply.TheVariants as reply
@@ -64,16 +66,11 @@ found_replies-outside top view h request base [] = ap (λ result. reply.Done res
 found_replies-outside top view h request base (row ∷ rows) = refl
 
 -- a base at or below the name takes in none of the others
-takes_in_none : (top base : RdnSequence) (scope : ℕ) (row : Row) → is_prefix_of top base ≡ true
+takes_in_none : (top base : RdnSequence) (scope : SearchScope) (row : Row) → is_prefix_of top base ≡ true
     → is_within top row.entry ≡ false → takes_in scope base row.entry ≡ false
-takes_in_none top base scope row e outside =
-    let not_below = below_within top base row.entry.name e outside in
-    neither (scope == 0) _ _ (same_within top base row.entry.name e outside)
-    (neither (scope == 1) _ _ (and_left (is_within base row.entry) _ not_below) not_below)
-  where
-    neither : (b x y : Bool) → x ≡ false → y ≡ false → (if b then x else y) ≡ false
-    neither true x y e f = e
-    neither false x y e f = f
+takes_in_none top base BaseObject row e outside = same_within top base row.entry.name e outside
+takes_in_none top base SingleLevel row e outside = and_left (is_within base row.entry) _ (below_within top base row.entry.name e outside)
+takes_in_none top base WholeSubtree row e outside = below_within top base row.entry.name e outside
 
 -- so nothing is selected
 selected_none : (top : RdnSequence) (view : View) → AreHidden top view

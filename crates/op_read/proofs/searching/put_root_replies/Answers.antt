@@ -1,5 +1,5 @@
 -- The root DSE alone is found by the empty name.
-use Rattle.std.proofs.Common.{◌∙◌, ◌++◌, ◌∷◌, [], List, ap}
+use Rattle.std.proofs.Common.{◌∙◌, ◌++◌, ◌∷◌, [], List, ap, sym}
 use Rattle.std.specs.Prelude.{if◌then◌else◌}
 use Rattle.std.proofs.lemmas.Result.{on_ok_weaker}
 use Rattle.ldap_msg.specs.declared.kinds.LdapResult.{LdapResult}
@@ -14,14 +14,14 @@ use Rattle.op_read.proofs.searching.AnsweringLemmas.{root-elsewhere, root-here, 
 use Rattle.op_read.proofs.searching.put_root_replies.Goals as goal
 
 -- no entry has the empty name
-pub returns-then-asked-ne0-clause-ok : goal.returns-then-asked-ne0-clause-ok
-returns-then-asked-ne0-clause-ok g c =
+pub returns-then-not-is_base-clause-ok : goal.returns-then-not-is_base-clause-ok
+returns-then-not-is_base-clause-ok g c =
     let view = view_in (g.D.Dir.rows c.args.asking.now.dir.now) c.args.asking.now.who.now in
     on_ok_weaker c.put_done.result
     (λ put.
     put
     ∙ ap (λ (ended : LdapResult). c.args.out.now.items ++ replies_octets c.args.asked.id (reply.Done ended ∷ [])) c.result_of.ensures.exact
-    ∙ ap (λ (replies : List Reply). c.args.out.now.items ++ replies_octets c.args.asked.id replies) (root-elsewhere view c.args.asked.request.now c.args.asked.subentries c.if-asked-ne0.true))
+    ∙ ap (λ (replies : List Reply). c.args.out.now.items ++ replies_octets c.args.asked.id replies) (root-elsewhere view c.args.asked.request.now c.args.asked.subentries (sym c.is_base.ensures ∙ c.if-not-is_base.true)))
     c.put_done.ensures.ok
 
 -- the base alone
@@ -34,6 +34,6 @@ returns-clause-ok g c =
     (λ put.
     replies-behind c.args.asked.id c.args.out.now.items c.put_root.new.out.items c.put_done-2.new.out.items found (reply.Done (result_of code.Success) ∷ []) (root_replies view request c.args.asked.subentries)
     c.in_ok-put_root.ensures.ok
-    (root-here view request c.args.asked.subentries c.if-asked-ne0.false)
+    (root-here view request c.args.asked.subentries (sym c.is_base.ensures ∙ c.if-not-is_base.false))
     (put ∙ ap (λ (ended : LdapResult). c.put_root.new.out.items ++ replies_octets c.args.asked.id (reply.Done ended ∷ [])) c.result_of-2.ensures.exact))
     c.put_done-2.ensures.ok
