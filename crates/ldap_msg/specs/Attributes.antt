@@ -18,7 +18,7 @@ attribute_parts attribute = (attribute.kind, ((attribute.values, tt), tt))
 
 -- the attribute of these parts
 abbrev pub attribute_from : Value attribute_layout → KindValues
-attribute_from parts = record { kind = parts.0; values = parts.1.0.0 }
+attribute_from (kind, ((values, _), _)) = record { kind = kind; values = values }
 
 -- operation ENUMERATED { add (0), delete (1), replace (2), ... }
 abbrev pub operation_number : ModifyOperation → ℕ
@@ -44,4 +44,4 @@ change_parts change = (operation_number change.operation, (attribute_parts chang
 
 -- the change of these parts
 abbrev pub change_from : Value change_layout → Change
-change_from parts = record { operation = operation_from parts.0; body = attribute_from parts.1.0 }
+change_from (operation, (body, _)) = record { operation = operation_from operation; body = attribute_from body }

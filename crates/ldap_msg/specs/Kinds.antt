@@ -16,7 +16,7 @@ abbrev pub modify_parts : ModifyRequest → Value modify_layout
 modify_parts request = (request.name, ((map change_parts request.changes, tt), tt))
 
 abbrev pub modify_from : Value modify_layout → ModifyRequest
-modify_from parts = record { name = parts.0; changes = map change_from parts.1.0.0 }
+modify_from (name, ((changes, _), _)) = record { name = name; changes = map change_from changes }
 
 -- AddRequest ::= [APPLICATION 8] SEQUENCE { entry LDAPDN, attributes SEQUENCE OF attribute, ... }
 abbrev pub add_layout : Layout
@@ -26,7 +26,7 @@ abbrev pub add_parts : AddRequest → Value add_layout
 add_parts request = (request.name, ((map attribute_parts request.attributes, tt), tt))
 
 abbrev pub add_from : Value add_layout → AddRequest
-add_from parts = record { name = parts.0; attributes = map attribute_from parts.1.0.0 }
+add_from (name, ((attributes, _), _)) = record { name = name; attributes = map attribute_from attributes }
 
 -- ModifyDNRequest ::= [APPLICATION 12] SEQUENCE { entry LDAPDN, newrdn RelativeLDAPDN, deleteoldrdn BOOLEAN,
 -- newSuperior [0] LDAPDN OPTIONAL, ... }
@@ -37,7 +37,7 @@ abbrev pub rename_parts : RenameRequest → Value rename_layout
 rename_parts request = (request.name, (request.new_rdn, (request.delete_old, (request.superior, tt))))
 
 abbrev pub rename_from : Value rename_layout → RenameRequest
-rename_from parts = record { name = parts.0; new_rdn = parts.1.0; delete_old = parts.1.1.0; superior = parts.1.1.1.0 }
+rename_from (name, (new_rdn, (delete_old, (superior, _)))) = record { name = name; new_rdn = new_rdn; delete_old = delete_old; superior = superior }
 
 -- CompareRequest ::= [APPLICATION 14] SEQUENCE { entry LDAPDN, ava SEQUENCE { attributeDesc, assertionValue }, ... }
 abbrev pub compare_layout : Layout
@@ -47,7 +47,7 @@ abbrev pub compare_parts : CompareRequest → Value compare_layout
 compare_parts request = (request.name, ((request.kind, (request.value, tt)), tt))
 
 abbrev pub compare_from : Value compare_layout → CompareRequest
-compare_from parts = record { name = parts.0; kind = parts.1.0.0; value = parts.1.0.1.0 }
+compare_from (name, ((kind, (value, _)), _)) = record { name = name; kind = kind; value = value }
 
 -- ExtendedRequest ::= [APPLICATION 23] SEQUENCE { requestName [0] LDAPOID, requestValue [1] OCTET STRING OPTIONAL, ... }
 abbrev pub extended_layout : Layout

@@ -17,7 +17,7 @@ use Rattle.ldap_filter.specs.FilterSpelling.{HasParts}
 use Rattle.ldap_msg.specs.Kinds.{modify_layout, modify_parts, add_layout, add_parts, rename_layout, rename_parts, compare_layout, compare_parts, extended_layout, abandon_layout}
 use Rattle.ldap_msg.specs.reading.Messages.{message_layout, message_parts}
 use Rattle.ldap_msg.specs.Results.{result_layout, result_parts, entry_layout, entry_parts, answered_layout, answered_parts}
-use Rattle.ldap_msg.specs.Replies.{reply_layout, reply_parts}
+use Rattle.ldap_msg.specs.Replies.{reply_layout, reply_parts, IsShortReply}
 
 -- the numbers of a request are in the ranges of its layout, and a bind's other method has a tag of its own
 abbrev pub IsWithin : Request → Type 0
@@ -54,4 +54,4 @@ IsReplyWithin (reply.Extended result name value) = Within answered_layout (answe
 pub record IsWritableReply (id : ℕ) (answer : Reply) : Type 0 where
   pub parts : Within reply_layout (reply_parts id answer)
   pub reply : IsReplyWithin answer
-  pub short : IsShort (writes reply_layout (reply_parts id answer))
+  pub short : IsShortReply id answer

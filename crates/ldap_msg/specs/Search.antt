@@ -40,12 +40,12 @@ search_layout = Then 0x04 AnyOctets (Then 0x0a (Number 0 2) (Then 0x0a (Skipped 
 
 -- the filter's element
 abbrev pub filter_part : Value search_layout → ℕ × List ℕ
-filter_part parts = parts.1.1.1.1.1.1.0
+filter_part (base, (scope, (aliases, (size, (time, (kinds_only, (filter, rest))))))) = filter
 
 -- the search of these parts with this filter
 abbrev pub search_with : Value search_layout → Filter → SearchRequest
-search_with parts filter =
-    record { base = parts.0; scope = scope_from parts.1.0; size = parts.1.1.1.0; kinds_only = parts.1.1.1.1.1.0; filter = filter; selection = parts.1.1.1.1.1.1.1.0.0 }
+search_with (base, (scope, (aliases, (size, (time, (kinds_only, (element, ((selection, _), _)))))))) filter =
+    record { base = base; scope = scope_from scope; size = size; kinds_only = kinds_only; filter = filter; selection = selection }
 
 -- the content says the search
 pub record SaysSearch (search : SearchRequest) (content : List ℕ) : Type 0 where
@@ -62,5 +62,8 @@ abbrev pub search_of : List ℕ → Option SearchRequest
 search_of content = reads search_layout content >>= search_from
 
 -- the parts of a search
+abbrev pub limits_parts : SearchRequest → Value limits_layout
+limits_parts search = (search.size, (tt, (search.kinds_only, (filter_octets search.filter, ((search.selection, tt), tt)))))
+
 abbrev pub search_parts : SearchRequest → Value search_layout
-search_parts search = (search.base, (scope_number search.scope, (tt, (search.size, (tt, (search.kinds_only, (filter_octets search.filter, ((search.selection, tt), tt))))))))
+search_parts search = (search.base, (scope_number search.scope, (tt, limits_parts search)))

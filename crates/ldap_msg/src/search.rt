@@ -4,7 +4,7 @@ ghost use Rattle.std.specs.Prelude.{◌≡◌, ◌≤◌, ◌++◌, OnOk};
 ghost use Rattle.ber_layout.specs.Layouts.{writes};
 ghost use Rattle.ber_layout.specs.element.Reading.{Gives};
 ghost use Rattle.ber_layout.specs.Spellings.{Extends};
-ghost use Rattle.ldap_msg.specs.Search.{scope_number, scope_from, is_base, search_layout, limits_layout, search_of, search_parts};
+ghost use Rattle.ldap_msg.specs.Search.{scope_number, scope_from, is_base, search_layout, limits_layout, search_of, limits_parts, search_parts};
 
 use crate::kinds::{NoMemory, SearchRequest, SearchScope};
 use crate::reading::MAX_ID;
@@ -81,7 +81,7 @@ pub fn search(alloc: Global, content: &[u8]) -> Result<SearchRequest, ReadFault>
 }
 
 fn put_limits(out: &mut Vec<u8>, search: &SearchRequest) -> Result<(), NoMemory>
-    ensures ok { OnOk result (out.new.items ≡ out.old.items ++ writes limits_layout (search_parts search.now).1.1.1) }
+    ensures ok { OnOk result (out.new.items ≡ out.old.items ++ writes limits_layout (limits_parts search.now)) }
     ensures kept { Extends out.old.items out.new.items }
 {
     put_number(out, 0x02, search.size)?;
