@@ -1,6 +1,6 @@
 -- How a page ends: a search done with the code success, and with the control of pages (RFC 2696 2 and 3).
 use Rattle.std.specs.Prelude.{ℕ, false, List, [], ◌∷◌, Some}
-use Rattle.ber_layout.specs.Layouts.{Value, writes}
+use Rattle.ber_layout.specs.Layouts.{Value, IsShort, writes}
 use Rattle.ber_layout.specs.Spellings.{element_octets}
 use Rattle.ldap_msg.specs.declared.kinds.Control.{Control}
 use Rattle.ldap_msg.specs.declared.kinds.Reply.{Reply}
@@ -24,6 +24,14 @@ end_control cookie = record { kind = page_kind; critical = false; value = Some (
 abbrev pub end_parts : ℕ → List ℕ → Value reply_layout
 end_parts id cookie = (id, ((response_tag (response_for done), reply_content done), (controls_parts (end_control cookie ∷ []), tt)))
 
+-- its written content
+abbrev pub end_content : ℕ → List ℕ → List ℕ
+end_content id cookie = writes reply_layout (end_parts id cookie)
+
 -- its written octets
 unfoldable pub page_end : ℕ → List ℕ → List ℕ
-page_end id cookie = element_octets 0x30 (writes reply_layout (end_parts id cookie))
+page_end id cookie = element_octets 0x30 (end_content id cookie)
+
+-- its content has a length that can be written
+abbrev pub IsShortEnd : ℕ → List ℕ → Type 0
+IsShortEnd id cookie = IsShort (end_content id cookie)

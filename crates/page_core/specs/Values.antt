@@ -21,7 +21,7 @@ abbrev pub value_parts : Page → Value value_layout
 value_parts page = ((page.size, (page.cookie, tt)), tt)
 
 abbrev pub page_from : Value value_layout → Page
-page_from parts = record { size = parts.0.0; cookie = parts.0.1.0 }
+page_from ((size, (cookie, _)), _) = record { size = size; cookie = cookie }
 
 -- the value says what is asked for
 abbrev pub SaysPage : Page → List ℕ → Type 0

@@ -7,7 +7,7 @@ ghost use Rattle.ldap_msg.specs.Controls.{control_layout, control_parts, control
 ghost use Rattle.ldap_msg.specs.operations.Operations.{response_tag};
 ghost use Rattle.ldap_msg.specs.Replies.{response_for, reply_layout, reply_content};
 ghost use Rattle.page_core.specs.Values.{page_kind, page_layout, page_octets};
-ghost use Rattle.page_core.specs.Endings.{done, end_control, end_parts, page_end};
+ghost use Rattle.page_core.specs.Endings.{done, end_control, end_parts, page_end, IsShortEnd};
 
 use crate::page::{NoMemory, PAGE_KIND};
 use ber_layout::{enclose, put_element, put_mark, put_number};
@@ -99,6 +99,7 @@ fn put_components(out: &mut Vec<u8>, id: u32, cookie: &[u8]) -> Result<(), NoMem
 #[tactic(auto, unfolding(crate::specs::Endings::page_end))]
 fn put_message(out: &mut Vec<u8>, id: u32, cookie: &[u8]) -> Result<(), NoMemory>
     ensures ok { OnOk result (out.new.items ≡ out.old.items ++ page_end id cookie.now) }
+    ensures short { OnOk result (IsShortEnd id cookie.now) }
     ensures kept { Extends out.old.items out.new.items }
 {
     let start = out.len();
@@ -111,6 +112,8 @@ fn put_message(out: &mut Vec<u8>, id: u32, cookie: &[u8]) -> Result<(), NoMemory
 /// octets or more, `out` is as before.
 pub fn put_page_end(out: &mut Vec<u8>, id: u32, cookie: &[u8]) -> Result<(), NoMemory>
     ensures ok { OnOk result (out.new.items ≡ out.old.items ++ page_end id cookie.now) }
+    // So it is read again, where the messageID is one.
+    ensures short { OnOk result (IsShortEnd id cookie.now) }
     ensures err { OnErr result (out.new.items ≡ out.old.items) }
 {
     let before = out.len();
