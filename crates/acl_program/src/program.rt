@@ -75,37 +75,37 @@ pub fn run<H: Shelf, K: Sink, L: Link>(
     // what is put: the text of an outcome that comes, with its status; or a front of it. And what is done with the link
     ensures text { Prints (map string_bytes words.now)
         (outside (H.files shelf.old) (H.faults shelf.old) (K.put out.old) (K.faults out.old)
-        (linked (L.journal link.old) (L.plan link.old) (L.faults link.old) (L.lost link.old) (L.refusals link.old))) result
+        (linked (L.journal link.old) (L.plan link.old) (L.faults link.old) (L.store_faults link.old) (L.lost link.old) (L.refusals link.old))) result
         (outside (H.files shelf.new) (H.faults shelf.new) (K.put out.new) (K.faults out.new)
-        (linked (L.journal link.new) (L.plan link.new) (L.faults link.new) (L.lost link.new) (L.refusals link.new))) }
+        (linked (L.journal link.new) (L.plan link.new) (L.faults link.new) (L.store_faults link.new) (L.lost link.new) (L.refusals link.new))) }
     // where the files are told and accepted, the command is done; serving where the link then gives Stop
     ensures complete { (outcome : Outcome) → IsDue (map string_bytes words.now) (H.files shelf.old)
-        (linked (L.journal link.old) (L.plan link.old) (L.faults link.old) (L.lost link.old) (L.refusals link.old))
-        (linked (L.journal link.new) (L.plan link.new) (L.faults link.new) (L.lost link.new) (L.refusals link.new)) outcome
+        (linked (L.journal link.old) (L.plan link.old) (L.faults link.old) (L.store_faults link.old) (L.lost link.old) (L.refusals link.old))
+        (linked (L.journal link.new) (L.plan link.new) (L.faults link.new) (L.store_faults link.new) (L.lost link.new) (L.refusals link.new)) outcome
         → (Rose (H.faults shelf.old) (H.faults shelf.new) → ⊥) → (Rose (K.faults out.old) (K.faults out.new) → ⊥)
         → EndsAs outcome result }
     // over twins a replay puts the same lines
     ensures twins { PrintsAlike (map string_bytes words.now)
         (outside (H.files shelf.old) (H.faults shelf.old) (K.put out.old) (K.faults out.old)
-        (linked (L.journal link.old) (L.plan link.old) (L.faults link.old) (L.lost link.old) (L.refusals link.old))) result
+        (linked (L.journal link.old) (L.plan link.old) (L.faults link.old) (L.store_faults link.old) (L.lost link.old) (L.refusals link.old))) result
         (outside (H.files shelf.new) (H.faults shelf.new) (K.put out.new) (K.faults out.new)
-        (linked (L.journal link.new) (L.plan link.new) (L.faults link.new) (L.lost link.new) (L.refusals link.new))) }
+        (linked (L.journal link.new) (L.plan link.new) (L.faults link.new) (L.store_faults link.new) (L.lost link.new) (L.refusals link.new))) }
     // each refusal
     ensures usage { result ≡ Status.Usage → IsNoCommand (map string_bytes words.now) }
     ensures refused { IsCause (map string_bytes words.now)
         (outside (H.files shelf.old) (H.faults shelf.old) (K.put out.old) (K.faults out.old)
-        (linked (L.journal link.old) (L.plan link.old) (L.faults link.old) (L.lost link.old) (L.refusals link.old)))
+        (linked (L.journal link.old) (L.plan link.old) (L.faults link.old) (L.store_faults link.old) (L.lost link.old) (L.refusals link.old)))
         (outside (H.files shelf.new) (H.faults shelf.new) (K.put out.new) (K.faults out.new)
-        (linked (L.journal link.new) (L.plan link.new) (L.faults link.new) (L.lost link.new) (L.refusals link.new))) result }
+        (linked (L.journal link.new) (L.plan link.new) (L.faults link.new) (L.store_faults link.new) (L.lost link.new) (L.refusals link.new))) result }
     ensures faults { EndsAtFaults
         (outside (H.files shelf.old) (H.faults shelf.old) (K.put out.old) (K.faults out.old)
-        (linked (L.journal link.old) (L.plan link.old) (L.faults link.old) (L.lost link.old) (L.refusals link.old)))
+        (linked (L.journal link.old) (L.plan link.old) (L.faults link.old) (L.store_faults link.old) (L.lost link.old) (L.refusals link.old)))
         (outside (H.files shelf.new) (H.faults shelf.new) (K.put out.new) (K.faults out.new)
-        (linked (L.journal link.new) (L.plan link.new) (L.faults link.new) (L.lost link.new) (L.refusals link.new))) result }
+        (linked (L.journal link.new) (L.plan link.new) (L.faults link.new) (L.store_faults link.new) (L.lost link.new) (L.refusals link.new))) result }
     // what stays
     ensures link { (AsksServing (map string_bytes words.now) → ⊥) →
-        linked (L.journal link.new) (L.plan link.new) (L.faults link.new) (L.lost link.new) (L.refusals link.new)
-        ≡ linked (L.journal link.old) (L.plan link.old) (L.faults link.old) (L.lost link.old) (L.refusals link.old) }
+        linked (L.journal link.new) (L.plan link.new) (L.faults link.new) (L.store_faults link.new) (L.lost link.new) (L.refusals link.new)
+        ≡ linked (L.journal link.old) (L.plan link.old) (L.faults link.old) (L.store_faults link.old) (L.lost link.old) (L.refusals link.old) }
     ensures shelf { H.files shelf.new ≡ H.files shelf.old }
 {
     run_words(alloc, words, shelf, out, link)
@@ -121,9 +121,9 @@ fn run_words<H: Shelf, K: Sink, L: Link>(
 ) -> Status
     ensures runs { Runs (map string_bytes words.now)
         (outside (H.files shelf.old) (H.faults shelf.old) (K.put out.old) (K.faults out.old)
-        (linked (L.journal link.old) (L.plan link.old) (L.faults link.old) (L.lost link.old) (L.refusals link.old))) result
+        (linked (L.journal link.old) (L.plan link.old) (L.faults link.old) (L.store_faults link.old) (L.lost link.old) (L.refusals link.old))) result
         (outside (H.files shelf.new) (H.faults shelf.new) (K.put out.new) (K.faults out.new)
-        (linked (L.journal link.new) (L.plan link.new) (L.faults link.new) (L.lost link.new) (L.refusals link.new))) }
+        (linked (L.journal link.new) (L.plan link.new) (L.faults link.new) (L.store_faults link.new) (L.lost link.new) (L.refusals link.new))) }
     ensures kept { H.files shelf.new ≡ H.files shelf.old }
 {
     match read_words(alloc, words) {
@@ -145,9 +145,9 @@ fn perform<H: Shelf, K: Sink, L: Link>(
     requires few { IsFew (view command) }
     ensures performs { Performs (view command.entry)
         (outside (H.files shelf.old) (H.faults shelf.old) (K.put out.old) (K.faults out.old)
-        (linked (L.journal link.old) (L.plan link.old) (L.faults link.old) (L.lost link.old) (L.refusals link.old))) result
+        (linked (L.journal link.old) (L.plan link.old) (L.faults link.old) (L.store_faults link.old) (L.lost link.old) (L.refusals link.old))) result
         (outside (H.files shelf.new) (H.faults shelf.new) (K.put out.new) (K.faults out.new)
-        (linked (L.journal link.new) (L.plan link.new) (L.faults link.new) (L.lost link.new) (L.refusals link.new))) }
+        (linked (L.journal link.new) (L.plan link.new) (L.faults link.new) (L.store_faults link.new) (L.lost link.new) (L.refusals link.new))) }
     ensures kept { H.files shelf.new ≡ H.files shelf.old }
 {
     match command {

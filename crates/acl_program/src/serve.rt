@@ -44,9 +44,9 @@ pub(crate) fn serve<H: Shelf, K: Sink, L: Link>(
 ) -> Status
     ensures performs { Performs (Serve (serving_view asked.now))
         (outside (H.files shelf.old) (H.faults shelf.old) (K.put out.old) (K.faults out.old)
-        (linked (L.journal link.old) (L.plan link.old) (L.faults link.old) (L.lost link.old) (L.refusals link.old))) result
+        (linked (L.journal link.old) (L.plan link.old) (L.faults link.old) (L.store_faults link.old) (L.lost link.old) (L.refusals link.old))) result
         (outside (H.files shelf.new) (H.faults shelf.new) (K.put out.new) (K.faults out.new)
-        (linked (L.journal link.new) (L.plan link.new) (L.faults link.new) (L.lost link.new) (L.refusals link.new))) }
+        (linked (L.journal link.new) (L.plan link.new) (L.faults link.new) (L.store_faults link.new) (L.lost link.new) (L.refusals link.new))) }
     ensures kept { H.files shelf.new ≡ H.files shelf.old }
 {
     match make_ready(alloc, asked, shelf, link) {
@@ -67,9 +67,9 @@ fn listen_for<K: Sink, L: Link>(
     ensures listens { (shelf : Shelved) (content : List ℕ) → Listens
         (serve_asked (serving_view asked.now) content (left_of loaded))
         (beside shelf (written (K.put out.old) (K.faults out.old))
-        (linked (L.journal link.old) (L.plan link.old) (L.faults link.old) (L.lost link.old) (L.refusals link.old))) result
+        (linked (L.journal link.old) (L.plan link.old) (L.faults link.old) (L.store_faults link.old) (L.lost link.old) (L.refusals link.old))) result
         (beside shelf (written (K.put out.new) (K.faults out.new))
-        (linked (L.journal link.new) (L.plan link.new) (L.faults link.new) (L.lost link.new) (L.refusals link.new))) }
+        (linked (L.journal link.new) (L.plan link.new) (L.faults link.new) (L.store_faults link.new) (L.lost link.new) (L.refusals link.new))) }
 {
     let Loaded { tree, applied } = loaded;
     let serving = *asked;
@@ -87,9 +87,9 @@ fn listen<K: Sink, L: Link>(
     ensures listens { (shelf : Shelved) (content : List ℕ) → Listens
         (listening_asked asked.now content (entries_of tree))
         (beside shelf (written (K.put out.old) (K.faults out.old))
-        (linked (L.journal link.old) (L.plan link.old) (L.faults link.old) (L.lost link.old) (L.refusals link.old))) result
+        (linked (L.journal link.old) (L.plan link.old) (L.faults link.old) (L.store_faults link.old) (L.lost link.old) (L.refusals link.old))) result
         (beside shelf (written (K.put out.new) (K.faults out.new))
-        (linked (L.journal link.new) (L.plan link.new) (L.faults link.new) (L.lost link.new) (L.refusals link.new))) }
+        (linked (L.journal link.new) (L.plan link.new) (L.faults link.new) (L.store_faults link.new) (L.lost link.new) (L.refusals link.new))) }
 {
     match IndexedDir::new(alloc, tree) {
         Ok(dir) => listen_on(alloc, dir, asked, out, link),
@@ -108,9 +108,9 @@ fn listen_on<K: Sink, L: Link>(
     ensures listens { (shelf : Shelved) (content : List ℕ) → Listens
         (listening_asked asked.now content (entries_of dir))
         (beside shelf (written (K.put out.old) (K.faults out.old))
-        (linked (L.journal link.old) (L.plan link.old) (L.faults link.old) (L.lost link.old) (L.refusals link.old))) result
+        (linked (L.journal link.old) (L.plan link.old) (L.faults link.old) (L.store_faults link.old) (L.lost link.old) (L.refusals link.old))) result
         (beside shelf (written (K.put out.new) (K.faults out.new))
-        (linked (L.journal link.new) (L.plan link.new) (L.faults link.new) (L.lost link.new) (L.refusals link.new))) }
+        (linked (L.journal link.new) (L.plan link.new) (L.faults link.new) (L.store_faults link.new) (L.lost link.new) (L.refusals link.new))) }
 {
     match open(&asked.serving, link) {
         Ok(()) => serve_opened(alloc, dir, asked, out, link),
@@ -122,8 +122,8 @@ fn listen_on<K: Sink, L: Link>(
 /// Tells the link which silence ends a connection, and opens it at the address.
 fn open<L: Link>(asked: &Serving<'_>, link: &mut L) -> Result<(), NextFault>
     ensures { Opens (serving_view asked.now) result
-        (linked (L.journal link.old) (L.plan link.old) (L.faults link.old) (L.lost link.old) (L.refusals link.old))
-        (linked (L.journal link.new) (L.plan link.new) (L.faults link.new) (L.lost link.new) (L.refusals link.new)) }
+        (linked (L.journal link.old) (L.plan link.old) (L.faults link.old) (L.store_faults link.old) (L.lost link.old) (L.refusals link.old))
+        (linked (L.journal link.new) (L.plan link.new) (L.faults link.new) (L.store_faults link.new) (L.lost link.new) (L.refusals link.new)) }
 {
     link.end_idle_after(asked.idle);
     link.open(asked.address, asked.sessions)
@@ -140,9 +140,9 @@ fn serve_opened<K: Sink, L: Link>(
     ensures opened { (shelf : Shelved) (content : List ℕ) → ListensOn
         (listening_asked asked.now content (entries_of dir))
         (beside shelf (written (K.put out.old) (K.faults out.old))
-        (linked (L.journal link.old) (L.plan link.old) (L.faults link.old) (L.lost link.old) (L.refusals link.old))) result
+        (linked (L.journal link.old) (L.plan link.old) (L.faults link.old) (L.store_faults link.old) (L.lost link.old) (L.refusals link.old))) result
         (beside shelf (written (K.put out.new) (K.faults out.new))
-        (linked (L.journal link.new) (L.plan link.new) (L.faults link.new) (L.lost link.new) (L.refusals link.new))) }
+        (linked (L.journal link.new) (L.plan link.new) (L.faults link.new) (L.store_faults link.new) (L.lost link.new) (L.refusals link.new))) }
 {
     match print_listening(alloc, asked, out) {
         Ok(()) => serve_events(alloc, dir, &asked.serving, out, link),
@@ -187,9 +187,9 @@ fn serve_events<K: Sink, L: Link>(
     ensures serves { (shelf : Shelved) (content : List ℕ) (applied : Option Applied) → ServesOpened
         (serve_asked (serving_view asked.now) content (record { entries = entries_of dir; applied = applied }))
         (beside shelf (written (K.put out.old) (K.faults out.old))
-        (linked (L.journal link.old) (L.plan link.old) (L.faults link.old) (L.lost link.old) (L.refusals link.old))) result
+        (linked (L.journal link.old) (L.plan link.old) (L.faults link.old) (L.store_faults link.old) (L.lost link.old) (L.refusals link.old))) result
         (beside shelf (written (K.put out.new) (K.faults out.new))
-        (linked (L.journal link.new) (L.plan link.new) (L.faults link.new) (L.lost link.new) (L.refusals link.new))) }
+        (linked (L.journal link.new) (L.plan link.new) (L.faults link.new) (L.store_faults link.new) (L.lost link.new) (L.refusals link.new))) }
 {
     let mut dir = dir;
     let ended = serve_loop(alloc, &mut dir, link, asked.turns, bounds_of(asked));

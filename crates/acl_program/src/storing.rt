@@ -33,8 +33,8 @@ pub(crate) fn make_ready<H: Shelf, L: Link>(
     link: &mut L,
 ) -> Result<Loaded, Unready>
     ensures readies { Readies (serving_view asked.now) (H.files shelf.old) (H.faults shelf.old) (H.faults shelf.new)
-        (linked (L.journal link.old) (L.plan link.old) (L.faults link.old) (L.lost link.old) (L.refusals link.old)) result
-        (linked (L.journal link.new) (L.plan link.new) (L.faults link.new) (L.lost link.new) (L.refusals link.new)) }
+        (linked (L.journal link.old) (L.plan link.old) (L.faults link.old) (L.store_faults link.old) (L.lost link.old) (L.refusals link.old)) result
+        (linked (L.journal link.new) (L.plan link.new) (L.faults link.new) (L.store_faults link.new) (L.lost link.new) (L.refusals link.new)) }
     ensures kept { H.files shelf.new ≡ H.files shelf.old }
 {
     match load_file(alloc, shelf, asked.data) {
@@ -69,8 +69,8 @@ fn open_store<H: Shelf, L: Link>(
     ensures readies { (serving : ServingView) (count : ℕ) → serving.changes ≡ Some changes.now
         → LoadsFile (H.files shelf.old) serving.data_file count (H.faults shelf.old) (Ok file)
         → Readies serving (H.files shelf.old) count (H.faults shelf.new)
-        (linked (L.journal link.old) (L.plan link.old) (L.faults link.old) (L.lost link.old) (L.refusals link.old)) result
-        (linked (L.journal link.new) (L.plan link.new) (L.faults link.new) (L.lost link.new) (L.refusals link.new)) }
+        (linked (L.journal link.old) (L.plan link.old) (L.faults link.old) (L.store_faults link.old) (L.lost link.old) (L.refusals link.old)) result
+        (linked (L.journal link.new) (L.plan link.new) (L.faults link.new) (L.store_faults link.new) (L.lost link.new) (L.refusals link.new)) }
     ensures kept { H.files shelf.new ≡ H.files shelf.old }
 {
     match link.open_store(changes) {
@@ -91,9 +91,9 @@ fn read_store<H: Shelf, L: Link>(
     ensures readies { (serving : ServingView) (count : ℕ) (before : Linked) → serving.changes ≡ Some changes.now
         → LoadsFile (H.files shelf.old) serving.data_file count (H.faults shelf.old) (Ok file)
         → OpensStore (Some changes.now) (Ok tt) before
-        (linked (L.journal link.old) (L.plan link.old) (L.faults link.old) (L.lost link.old) (L.refusals link.old))
+        (linked (L.journal link.old) (L.plan link.old) (L.faults link.old) (L.store_faults link.old) (L.lost link.old) (L.refusals link.old))
         → Readies serving (H.files shelf.old) count (H.faults shelf.new) before result
-        (linked (L.journal link.new) (L.plan link.new) (L.faults link.new) (L.lost link.new) (L.refusals link.new)) }
+        (linked (L.journal link.new) (L.plan link.new) (L.faults link.new) (L.store_faults link.new) (L.lost link.new) (L.refusals link.new)) }
     ensures kept { H.files shelf.new ≡ H.files shelf.old }
 {
     let DataFile { content, tree } = file;
@@ -125,8 +125,8 @@ fn cut_store<L: Link>(
     link: &mut L,
 ) -> Result<(), NextFault>
     ensures { Prepares content.now whole result
-        (linked (L.journal link.old) (L.plan link.old) (L.faults link.old) (L.lost link.old) (L.refusals link.old))
-        (linked (L.journal link.new) (L.plan link.new) (L.faults link.new) (L.lost link.new) (L.refusals link.new)) }
+        (linked (L.journal link.old) (L.plan link.old) (L.faults link.old) (L.store_faults link.old) (L.lost link.old) (L.refusals link.old))
+        (linked (L.journal link.new) (L.plan link.new) (L.faults link.new) (L.store_faults link.new) (L.lost link.new) (L.refusals link.new)) }
 {
     match link.cut_store(whole as u64) {
         Ok(()) => {
@@ -143,8 +143,8 @@ fn cut_store<L: Link>(
 /// Stores the head of the data file of this content.
 fn store_head<L: Link>(alloc: Global, content: &[u8], link: &mut L) -> Result<(), NextFault>
     ensures { Stores (head_of content.now) result
-        (linked (L.journal link.old) (L.plan link.old) (L.faults link.old) (L.lost link.old) (L.refusals link.old))
-        (linked (L.journal link.new) (L.plan link.new) (L.faults link.new) (L.lost link.new) (L.refusals link.new)) }
+        (linked (L.journal link.old) (L.plan link.old) (L.faults link.old) (L.store_faults link.old) (L.lost link.old) (L.refusals link.old))
+        (linked (L.journal link.new) (L.plan link.new) (L.faults link.new) (L.store_faults link.new) (L.lost link.new) (L.refusals link.new)) }
 {
     match head_of(alloc, content) {
         Ok(head) => link.store(head.as_slice()),

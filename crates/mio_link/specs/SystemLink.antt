@@ -4,9 +4,13 @@ use Rattle.mio_link.specs.declared.link.MioLink.{MioLink}
 use Rattle.mio_link.specs.declared.store.Store.TheVariants.{Failed}
 use Rattle.mio_link.specs.Store.{is_open, awaits_disk}
 
--- how many faults the link had
+-- how many faults of `open` and `next` the link had
 abbrev pub link_faults : {R : Type 0} → MioLink R → ℕ
 link_faults link = link.faults
+
+-- how many faults of the calls of its store
+abbrev pub store_faults : {R : Type 0} → MioLink R → ℕ
+store_faults link = link.store_faults
 
 -- how many connections it found lost
 abbrev pub lost_connections : {R : Type 0} → MioLink R → ℕ

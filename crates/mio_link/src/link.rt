@@ -7,7 +7,7 @@ ghost use Rattle.wire_io.specs.Answers.{HeardFits, TookFits, LinkCause, WriteCau
 ghost use Rattle.wire_io.specs.Playing.{NextPlays};
 ghost use Rattle.wire_io.specs.link.Telling.{OpenTells, StoreOpenTells, NextTells, TookTells, NoteTells};
 ghost use Rattle.mio_link.specs.Store.{awaits_disk};
-ghost use Rattle.mio_link.specs.SystemLink.{link_faults, lost_connections, refused_calls, has_store, waits_for_disk, StoreFailed, StoreStays};
+ghost use Rattle.mio_link.specs.SystemLink.{link_faults, store_faults, lost_connections, refused_calls, has_store, waits_for_disk, StoreFailed, StoreStays};
 
 use crate::sockets::Sockets;
 use crate::store::Store;
@@ -32,6 +32,7 @@ pub struct MioLink<R> {
     sockets: Sockets,
     store: Store,
     faults: u64,
+    store_faults: u64,
     lost: u64,
     refusals: u64,
 }
@@ -39,13 +40,14 @@ pub struct MioLink<R> {
 impl<R: Net + Drop> MioLink<R> {
     /// A link over the runtime, which isn't open yet, had no fault and refused nothing. Its tables are made here.
     pub fn new(rt: R, alloc: Global) -> Result<MioLink<R>, NoMemory>
-        ensures fresh { IfOk result (λ link. (link_faults link ≡ 0) × (lost_connections link ≡ 0) × (refused_calls link ≡ 0)) }
+        ensures fresh { IfOk result (λ link. (link_faults link ≡ 0) × (store_faults link ≡ 0) × (lost_connections link ≡ 0) × (refused_calls link ≡ 0)) }
     {
         Ok(MioLink {
             rt,
             sockets: Sockets::new(alloc)?,
             store: Store::Unopened,
             faults: 0,
+            store_faults: 0,
             lost: 0,
             refusals: 0,
         })
@@ -59,7 +61,7 @@ impl<R> MioLink<R> {
         ensures later { awaits_disk self.old.store ≡ true → result ≡ Took.Later }
         ensures fits { TookFits (length bytes.now) result }
         // what stays
-        ensures counts { (self.new.faults ≡ self.old.faults) × (self.new.lost ≡ self.old.lost) × (self.new.refusals ≡ self.old.refusals) }
+        ensures counts { (self.new.faults ≡ self.old.faults) × (self.new.store_faults ≡ self.old.store_faults) × (self.new.lost ≡ self.old.lost) × (self.new.refusals ≡ self.old.refusals) }
         ensures store { self.new.store ≡ self.old.store }
     {
         if self.store.awaits_disk() {
@@ -79,6 +81,8 @@ impl<R: Net + Clock + Files<File = File>> Link for MioLink<R> {
 
     ghost faults = { λ link. link.faults };
 
+    ghost store_faults = { λ link. link.store_faults };
+
     ghost lost = { λ link. link.lost };
 
     ghost refusals = { λ link. link.refusals };
@@ -86,6 +90,7 @@ impl<R: Net + Clock + Files<File = File>> Link for MioLink<R> {
     /// The clock is the runtime's; where it can't be read no connection is idle.
     fn end_idle_after(&mut self, seconds: u64)
         ensures faults { link_faults self.new ≡ link_faults self.old }
+        ensures store_faults { store_faults self.new ≡ store_faults self.old }
         ensures lost { lost_connections self.new ≡ lost_connections self.old }
         ensures refusals { refused_calls self.new ≡ refused_calls self.old }
         ensures store { StoreStays self.old self.new }
@@ -99,6 +104,7 @@ impl<R: Net + Clock + Files<File = File>> Link for MioLink<R> {
         ensures tells { OpenTells None address.now sessions result None }
         ensures cause { LinkCause None (link_faults self.old) (link_faults self.new) result }
         ensures refusals { RefusalCause (refused_calls self.old) (refused_calls self.new) result }
+        ensures store_faults { store_faults self.new ≡ store_faults self.old }
         ensures lost { NeverFalls (lost_connections self.old) (lost_connections self.new) }
         ensures store { StoreStays self.old self.new }
     {
@@ -126,8 +132,9 @@ impl<R: Net + Clock + Files<File = File>> Link for MioLink<R> {
         ensures memory { result ≡ Err NextFault.NoMemory → StoreStays self.old self.new }
         ensures failed { StoreFailed self.old → result ≡ Err NextFault.Failed }
         ensures tells { StoreOpenTells None name.now result None }
-        ensures cause { LinkCause None (link_faults self.old) (link_faults self.new) result }
+        ensures cause { LinkCause None (store_faults self.old) (store_faults self.new) result }
         ensures refusals { RefusalCause (refused_calls self.old) (refused_calls self.new) result }
+        ensures faults { link_faults self.new ≡ link_faults self.old }
         ensures lost { NeverFalls (lost_connections self.old) (lost_connections self.new) }
     {
         match self.store.open(&self.rt, name) {
@@ -137,7 +144,7 @@ impl<R: Net + Clock + Files<File = File>> Link for MioLink<R> {
                 Err(NextFault::NoMemory)
             }
             Err(NextFault::Failed) => {
-                self.faults = raised(self.faults);
+                self.store_faults = raised(self.store_faults);
                 Err(NextFault::Failed)
             }
         }
@@ -152,14 +159,15 @@ impl<R: Net + Clock + Files<File = File>> Link for MioLink<R> {
         ensures err { OnErr result (StoreFailed self.new) }
         ensures failed { StoreFailed self.old → result ≡ Err NextFault.Failed }
         ensures tells { NoteTells None (Item.StoreCut length) result None }
-        ensures cause { LinkCause None (link_faults self.old) (link_faults self.new) result }
+        ensures cause { LinkCause None (store_faults self.old) (store_faults self.new) result }
         ensures refusals { RefusalCause (refused_calls self.old) (refused_calls self.new) result }
+        ensures faults { link_faults self.new ≡ link_faults self.old }
         ensures lost { NeverFalls (lost_connections self.old) (lost_connections self.new) }
     {
         match self.store.cut(length) {
             Ok(()) => Ok(()),
             Err(_) => {
-                self.faults = raised(self.faults);
+                self.store_faults = raised(self.store_faults);
                 Err(NextFault::Failed)
             }
         }
@@ -175,14 +183,15 @@ impl<R: Net + Clock + Files<File = File>> Link for MioLink<R> {
         ensures err { OnErr result (StoreFailed self.new) }
         ensures failed { StoreFailed self.old → result ≡ Err NextFault.Failed }
         ensures tells { NoteTells None (Item.Stored octets.now) result None }
-        ensures cause { LinkCause None (link_faults self.old) (link_faults self.new) result }
+        ensures cause { LinkCause None (store_faults self.old) (store_faults self.new) result }
         ensures refusals { RefusalCause (refused_calls self.old) (refused_calls self.new) result }
+        ensures faults { link_faults self.new ≡ link_faults self.old }
         ensures lost { NeverFalls (lost_connections self.old) (lost_connections self.new) }
     {
         match self.store.append(octets) {
             Ok(()) => Ok(()),
             Err(_) => {
-                self.faults = raised(self.faults);
+                self.store_faults = raised(self.store_faults);
                 Err(NextFault::Failed)
             }
         }
@@ -197,8 +206,9 @@ impl<R: Net + Clock + Files<File = File>> Link for MioLink<R> {
         ensures waits { OnOk result (waits_for_disk self.new ≡ true → waits_for_disk self.old ≡ true) }
         ensures err { OnErr result (StoreFailed self.new) }
         ensures failed { StoreFailed self.old → result ≡ Err NextFault.Failed }
-        ensures cause { LinkCause None (link_faults self.old) (link_faults self.new) result }
+        ensures cause { LinkCause None (store_faults self.old) (store_faults self.new) result }
         ensures refusals { RefusalCause (refused_calls self.old) (refused_calls self.new) result }
+        ensures faults { link_faults self.new ≡ link_faults self.old }
         ensures lost { NeverFalls (lost_connections self.old) (lost_connections self.new) }
     {
         if !self.store.awaits_disk() || (self.sockets.have_some() && self.store.put_off()) {
@@ -210,7 +220,7 @@ impl<R: Net + Clock + Files<File = File>> Link for MioLink<R> {
                 Ok(())
             }
             Err(_) => {
-                self.faults = raised(self.faults);
+                self.store_faults = raised(self.store_faults);
                 Err(NextFault::Failed)
             }
         }
@@ -226,6 +236,7 @@ impl<R: Net + Clock + Files<File = File>> Link for MioLink<R> {
         ensures plays { NextPlays None None buf.new result None }
         ensures cause { LinkCause None (link_faults self.old) (link_faults self.new) result }
         ensures refusals { RefusalCause (refused_calls self.old) (refused_calls self.new) result }
+        ensures store_faults { store_faults self.new ≡ store_faults self.old }
         ensures lost { NeverFalls (lost_connections self.old) (lost_connections self.new) }
         ensures store { StoreStays self.old self.new }
     {
@@ -258,6 +269,7 @@ impl<R: Net + Clock + Files<File = File>> Link for MioLink<R> {
         ensures cause { WriteCause None (lost_connections self.old) (lost_connections self.new) result }
         ensures refusals { WriteRefusal (refused_calls self.old) (refused_calls self.new) result }
         ensures faults { link_faults self.new ≡ link_faults self.old }
+        ensures store_faults { store_faults self.new ≡ store_faults self.old }
         ensures store { StoreStays self.old self.new }
     {
         let took = self.offer(conn, bytes);
@@ -274,6 +286,7 @@ impl<R: Net + Clock + Files<File = File>> Link for MioLink<R> {
         ensures tells { NoteTells None (Item.Held conn) result None }
         ensures refusals { NoteRefusal (refused_calls self.old) (refused_calls self.new) result }
         ensures faults { link_faults self.new ≡ link_faults self.old }
+        ensures store_faults { store_faults self.new ≡ store_faults self.old }
         ensures lost { NeverFalls (lost_connections self.old) (lost_connections self.new) }
         ensures store { StoreStays self.old self.new }
     {
@@ -286,6 +299,7 @@ impl<R: Net + Clock + Files<File = File>> Link for MioLink<R> {
         ensures tells { NoteTells None (Item.Released conn) result None }
         ensures refusals { NoteRefusal (refused_calls self.old) (refused_calls self.new) result }
         ensures faults { link_faults self.new ≡ link_faults self.old }
+        ensures store_faults { store_faults self.new ≡ store_faults self.old }
         ensures lost { NeverFalls (lost_connections self.old) (lost_connections self.new) }
         ensures store { StoreStays self.old self.new }
     {
@@ -298,6 +312,7 @@ impl<R: Net + Clock + Files<File = File>> Link for MioLink<R> {
         ensures tells { NoteTells None (Item.HungUp conn) result None }
         ensures refusals { NoteRefusal (refused_calls self.old) (refused_calls self.new) result }
         ensures faults { link_faults self.new ≡ link_faults self.old }
+        ensures store_faults { store_faults self.new ≡ store_faults self.old }
         ensures lost { NeverFalls (lost_connections self.old) (lost_connections self.new) }
         ensures store { StoreStays self.old self.new }
     {

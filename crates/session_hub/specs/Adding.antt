@@ -37,15 +37,17 @@ Adds plan claim next_claim before after =
     (begun added : List Item) → before ≡ Some (begun ++ added) →
     (more : List Item) × (after ≡ Some (begun ++ (added ++ more))) × IsBlock plan more × (claim added → next_claim (added ++ more))
 
--- a call that serves keeps the plan and the count of faults, no connection that was lost comes back, and no refusal of the
+-- a call that serves keeps the plan and the counts of faults, no connection that was lost comes back, and no refusal of the
 -- link is taken back
-pub record OnlyServes (plan_old plan_new : Option Plan) (faults_old faults_new lost_old lost_new refusals_old refusals_new : ℕ) : Type 0 where
+pub record OnlyServes (plan_old plan_new : Option Plan) (faults_old faults_new store_old store_new lost_old lost_new refusals_old refusals_new : ℕ) : Type 0 where
   pub plan : plan_new ≡ plan_old
   pub faults : faults_new ≡ faults_old
+  pub store_faults : store_new ≡ store_old
   pub lost : NeverFalls lost_old lost_new
   pub refusals : NeverFalls refusals_old refusals_new
 
--- when each answer of a call that stores and serves comes: a fault is the link's, where there was something to be stored
+-- when each answer of a call that stores and serves comes, by the count of the store's faults: it rises with a fault, where
+-- there was something to be stored
 abbrev pub StoreCause : {X : Type 0} → Type 0 → Option Plan → ℕ → ℕ → Result X NextFault → Type 0
 StoreCause stores plan before after (Ok value) = after ≡ before
 StoreCause stores plan before after (Err Failed) = Rose before after × IsPlanned (λ plan. plan.failing) plan × stores

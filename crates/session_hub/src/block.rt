@@ -34,7 +34,8 @@ fn greet<D: Dir, L: Link>(
         (After hub.old.bounds.terms result start (entries_of (D.rows dir.new)) (IsServing hub.old.bounds.terms start waiting.new.due.items
         (held (entries_of (D.rows dir.new)) hub.new) waiting.new.on_hold.items))
         (L.journal link.old) (L.journal link.new) }
-    ensures serves { OnlyServes (L.plan link.old) (L.plan link.new) (L.faults link.old) (L.faults link.new) (L.lost link.old) (L.lost link.new)
+    ensures serves { OnlyServes (L.plan link.old) (L.plan link.new) (L.faults link.old) (L.faults link.new)
+        (L.store_faults link.old) (L.store_faults link.new) (L.lost link.old) (L.lost link.new)
         (L.refusals link.old) (L.refusals link.new) }
     ensures bounds { hub.new.bounds ≡ hub.old.bounds }
     ensures unkept { hub.old.bounds.terms.keeps ≡ false → hub.new.unstored ≡ hub.old.unstored }
@@ -64,7 +65,8 @@ fn turn_away<L: Link>(
         (IsTurnedAway terms start conn (held tree hub.old) waiting.old.on_hold.items)
         (After terms result start tree (IsServing terms start waiting.new.due.items (held tree hub.new) waiting.new.on_hold.items))
         (L.journal link.old) (L.journal link.new) }
-    ensures serves { OnlyServes (L.plan link.old) (L.plan link.new) (L.faults link.old) (L.faults link.new) (L.lost link.old) (L.lost link.new)
+    ensures serves { OnlyServes (L.plan link.old) (L.plan link.new) (L.faults link.old) (L.faults link.new)
+        (L.store_faults link.old) (L.store_faults link.new) (L.lost link.old) (L.lost link.new)
         (L.refusals link.old) (L.refusals link.new) }
     ensures bounds { hub.new.bounds ≡ hub.old.bounds }
     ensures unstored { hub.new.unstored ≡ hub.old.unstored }
@@ -122,7 +124,8 @@ fn begin_block<D: Dir, L: Link>(
         (After hub.old.bounds.terms result start (entries_of (D.rows dir.new)) (IsServing hub.old.bounds.terms start waiting.new.due.items
         (held (entries_of (D.rows dir.new)) hub.new) waiting.new.on_hold.items))
         (L.journal link.old) (L.journal link.new) }
-    ensures serves { OnlyServes (L.plan link.old) (L.plan link.new) (L.faults link.old) (L.faults link.new) (L.lost link.old) (L.lost link.new)
+    ensures serves { OnlyServes (L.plan link.old) (L.plan link.new) (L.faults link.old) (L.faults link.new)
+        (L.store_faults link.old) (L.store_faults link.new) (L.lost link.old) (L.lost link.new)
         (L.refusals link.old) (L.refusals link.new) }
     ensures bounds { hub.new.bounds ≡ hub.old.bounds }
     ensures unkept { hub.old.bounds.terms.keeps ≡ false → hub.new.unstored ≡ hub.old.unstored }
@@ -157,8 +160,9 @@ fn store_changes<L: Link>(hub: &mut Hub, link: &mut L) -> Result<(), NextFault>
         (After terms result start tree (IsServing terms start due (held tree hub.new) on_hold))
         (L.journal link.old) (L.journal link.new) }
     ensures stored { OnOk result (hub.new.unstored ≡ []) }
-    ensures cause { StoreCause (hub.old.unstored ≢ []) (L.plan link.old) (L.faults link.old) (L.faults link.new) result }
+    ensures cause { StoreCause (hub.old.unstored ≢ []) (L.plan link.old) (L.store_faults link.old) (L.store_faults link.new) result }
     ensures plan { L.plan link.new ≡ L.plan link.old }
+    ensures faults { L.faults link.new ≡ L.faults link.old }
     ensures refusals { RefusalCause (L.refusals link.old) (L.refusals link.new) result }
     ensures lost { NeverFalls (L.lost link.old) (L.lost link.new) }
     ensures bounds { hub.new.bounds ≡ hub.old.bounds }
@@ -183,8 +187,9 @@ fn end_block<L: Link>(hub: &mut Hub, waiting: &mut Waiting, link: &mut L) -> Res
         (After terms result start tree (IsServing terms start [] (held tree hub.new) waiting.new.on_hold.items))
         (L.journal link.old) (L.journal link.new) }
     ensures stored { OnOk result (hub.new.unstored ≡ []) }
-    ensures cause { StoreCause (hub.old.unstored ≢ []) (L.plan link.old) (L.faults link.old) (L.faults link.new) result }
+    ensures cause { StoreCause (hub.old.unstored ≢ []) (L.plan link.old) (L.store_faults link.old) (L.store_faults link.new) result }
     ensures plan { L.plan link.new ≡ L.plan link.old }
+    ensures faults { L.faults link.new ≡ L.faults link.old }
     ensures refusals { RefusalCause (L.refusals link.old) (L.refusals link.new) result }
     ensures lost { NeverFalls (L.lost link.old) (L.lost link.new) }
     ensures bounds { hub.new.bounds ≡ hub.old.bounds }
@@ -216,8 +221,9 @@ pub fn serve_event<D: Dir, L: Link>(
         (held (entries_of (D.rows dir.new)) hub.new) waiting.new.on_hold.items))
         (L.journal link.old) (L.journal link.new) }
     ensures stored { OnOk result (hub.new.unstored ≡ []) }
-    ensures cause { StoreCause (hub.old.bounds.terms.keeps ≡ true) (L.plan link.old) (L.faults link.old) (L.faults link.new) result }
+    ensures cause { StoreCause (hub.old.bounds.terms.keeps ≡ true) (L.plan link.old) (L.store_faults link.old) (L.store_faults link.new) result }
     ensures plan { L.plan link.new ≡ L.plan link.old }
+    ensures faults { L.faults link.new ≡ L.faults link.old }
     ensures refusals { BlockRefusal heard (L.refusals link.old) (L.refusals link.new) result }
     ensures lost { NeverFalls (L.lost link.old) (L.lost link.new) }
     ensures bounds { hub.new.bounds ≡ hub.old.bounds }

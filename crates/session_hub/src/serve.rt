@@ -46,9 +46,10 @@ fn end_of(hub: &Hub, ended: Ended) -> Ended
 /// Has the link see to it that what was stored is on the disk, where changes are kept.
 fn sync_changes<L: Link>(hub: &Hub, link: &mut L) -> Result<(), NextFault>
     ensures tells { L.journal link.new ≡ L.journal link.old }
-    ensures cause { StoreCause (hub.now.bounds.terms.keeps ≡ true) (L.plan link.old) (L.faults link.old) (L.faults link.new) result }
+    ensures cause { StoreCause (hub.now.bounds.terms.keeps ≡ true) (L.plan link.old) (L.store_faults link.old) (L.store_faults link.new) result }
     ensures refusals { RefusalCause (L.refusals link.old) (L.refusals link.new) result }
     ensures plan { L.plan link.new ≡ L.plan link.old }
+    ensures faults { L.faults link.new ≡ L.faults link.old }
     ensures lost { NeverFalls (L.lost link.old) (L.lost link.new) }
 {
     if hub.keeps() {
@@ -79,8 +80,10 @@ fn take_turn<D: Dir, L: Link>(
         (held (entries_of (D.rows dir.old)) hub.old) waiting.old.on_hold.items
         ended (entries_of (D.rows dir.new)) (L.journal link.new) (L.plan link.new)) }
     ensures faults { IfNone result (L.faults link.new ≡ L.faults link.old) }
+    ensures store_faults { IfNone result (L.store_faults link.new ≡ L.store_faults link.old) }
     ensures stored { IfNone result (hub.new.unstored ≡ []) }
-    ensures cause { IfSome result (λ ended. EndsFor hub.old.bounds.terms.keeps (L.plan link.old) (L.faults link.old) (L.faults link.new) ended) }
+    ensures cause { IfSome result (λ ended. EndsFor hub.old.bounds.terms.keeps (L.plan link.old) (L.faults link.old) (L.faults link.new)
+        (L.store_faults link.old) (L.store_faults link.new) ended) }
     ensures memory { IfSome result (λ ended. StarvesFrom hub.old.bounds.terms
         (L.journal link.old) (held (entries_of (D.rows dir.old)) hub.old) waiting.old.on_hold.items (L.refusals link.old)
         ended (entries_of (D.rows dir.new)) (L.journal link.new) (L.refusals link.new)) }
@@ -115,8 +118,10 @@ fn hear_next<D: Dir, L: Link>(
         (held (entries_of (D.rows dir.old)) hub.old) waiting.old.on_hold.items
         ended (entries_of (D.rows dir.new)) (L.journal link.new) (L.plan link.new)) }
     ensures faults { IfNone result (L.faults link.new ≡ L.faults link.old) }
+    ensures store_faults { IfNone result (L.store_faults link.new ≡ L.store_faults link.old) }
     ensures stored { IfNone result (hub.new.unstored ≡ []) }
-    ensures cause { IfSome result (λ ended. EndsFor hub.old.bounds.terms.keeps (L.plan link.old) (L.faults link.old) (L.faults link.new) ended) }
+    ensures cause { IfSome result (λ ended. EndsFor hub.old.bounds.terms.keeps (L.plan link.old) (L.faults link.old) (L.faults link.new)
+        (L.store_faults link.old) (L.store_faults link.new) ended) }
     ensures memory { IfSome result (λ ended. StarvesFrom hub.old.bounds.terms
         (L.journal link.old) (held (entries_of (D.rows dir.old)) hub.old) waiting.old.on_hold.items (L.refusals link.old)
         ended (entries_of (D.rows dir.new)) (L.journal link.new) (L.refusals link.new)) }
@@ -156,7 +161,8 @@ fn serve_in<D: Dir, L: Link>(
     ensures served { Serves hub.bounds.terms (entries_of (D.rows dir.old)) (entries_of (D.rows dir.new))
         turns (L.journal link.old) result (L.journal link.new) }
     ensures plays { PlaysOut turns (L.journal link.old) (L.plan link.old) result (L.journal link.new) (L.plan link.new) }
-    ensures cause { EndsFor hub.bounds.terms.keeps (L.plan link.old) (L.faults link.old) (L.faults link.new) result }
+    ensures cause { EndsFor hub.bounds.terms.keeps (L.plan link.old) (L.faults link.old) (L.faults link.new)
+        (L.store_faults link.old) (L.store_faults link.new) result }
     ensures memory { Starves hub.bounds.terms (entries_of (D.rows dir.old)) (entries_of (D.rows dir.new))
         (L.journal link.old) (L.refusals link.old) result (L.journal link.new) (L.refusals link.new) }
     ensures refusals { NeverFalls (L.refusals link.old) (L.refusals link.new) }
@@ -183,9 +189,10 @@ fn serve_in<D: Dir, L: Link>(
 /// With `NoMemory` connections may have been cut, for want of memory or since more waited for them than the
 /// bounds have room for, each once, and the last block may be unfinished; it comes only before the first event,
 /// where a connection opened last, where one was cut, or where the link refused a call for want of memory, which
-/// its count of refusals shows. `LinkFault` says that the link failed to give an event, and `StoreFault` that it
-/// failed to store changes or to have them on the disk, which its count of faults shows; the last block may then
-/// be unfinished. Where nothing was cut the journal serves twins of the directory too.
+/// its count of refusals shows. `LinkFault` says that the link failed to give an event, which its count of faults
+/// shows, and `StoreFault` that it failed to store changes or to have them on the disk, which the count of its
+/// store's faults shows; the last block may then be unfinished. Where nothing was cut the journal serves twins of
+/// the directory too.
 pub fn serve_loop<D: Dir, L: Link>(
     alloc: Global,
     dir: &mut D,
@@ -197,7 +204,8 @@ pub fn serve_loop<D: Dir, L: Link>(
         turns (L.journal link.old) result (L.journal link.new) }
     ensures twins { ServesTwins bounds.terms (entries_of (D.rows dir.old)) (L.journal link.old) result (L.journal link.new) }
     ensures plays { PlaysOut turns (L.journal link.old) (L.plan link.old) result (L.journal link.new) (L.plan link.new) }
-    ensures cause { EndsFor bounds.terms.keeps (L.plan link.old) (L.faults link.old) (L.faults link.new) result }
+    ensures cause { EndsFor bounds.terms.keeps (L.plan link.old) (L.faults link.old) (L.faults link.new)
+        (L.store_faults link.old) (L.store_faults link.new) result }
     ensures memory { Starves bounds.terms (entries_of (D.rows dir.old)) (entries_of (D.rows dir.new))
         (L.journal link.old) (L.refusals link.old) result (L.journal link.new) (L.refusals link.new) }
     ensures refusals { NeverFalls (L.refusals link.old) (L.refusals link.new) }

@@ -24,7 +24,8 @@ pub fn send_queue<L: Link>(hub: &mut Hub, link: &mut L, conn: u32) -> Result<Sen
     ensures adds { (terms : Terms) (start tree : DirectoryEntries) (due on_hold : List ℕ) → Adds (L.plan link.old)
         (IsServing terms start (conn ∷ due) (held tree hub.old) on_hold)
         (SentAs terms result start conn due (held tree hub.new) on_hold) (L.journal link.old) (L.journal link.new) }
-    ensures serves { OnlyServes (L.plan link.old) (L.plan link.new) (L.faults link.old) (L.faults link.new) (L.lost link.old) (L.lost link.new)
+    ensures serves { OnlyServes (L.plan link.old) (L.plan link.new) (L.faults link.old) (L.faults link.new)
+        (L.store_faults link.old) (L.store_faults link.new) (L.lost link.old) (L.lost link.new)
         (L.refusals link.old) (L.refusals link.new) }
     ensures wants { OnErr result (Rose (L.refusals link.old) (L.refusals link.new)) }
     ensures bounds { hub.new.bounds ≡ hub.old.bounds }
@@ -56,7 +57,8 @@ fn drop_lost<L: Link>(
         (After terms result start tree (IsServing terms start due (held tree hub.new) waiting.new.on_hold.items))
         (L.journal link.old) (L.journal link.new) }
     ensures due { waiting.new.due.items ≡ waiting.old.due.items }
-    ensures serves { OnlyServes (L.plan link.old) (L.plan link.new) (L.faults link.old) (L.faults link.new) (L.lost link.old) (L.lost link.new)
+    ensures serves { OnlyServes (L.plan link.old) (L.plan link.new) (L.faults link.old) (L.faults link.new)
+        (L.store_faults link.old) (L.store_faults link.new) (L.lost link.old) (L.lost link.new)
         (L.refusals link.old) (L.refusals link.new) }
     ensures wants { OnErr result (Rose (L.refusals link.old) (L.refusals link.new)) }
     ensures bounds { hub.new.bounds ≡ hub.old.bounds }
@@ -79,7 +81,8 @@ fn hold_back<L: Link>(waiting: &mut Waiting, link: &mut L, conn: u32) -> Result<
         (After terms result start hub.tree (IsServing terms start due hub waiting.new.on_hold.items))
         (L.journal link.old) (L.journal link.new) }
     ensures due { waiting.new.due.items ≡ waiting.old.due.items }
-    ensures serves { OnlyServes (L.plan link.old) (L.plan link.new) (L.faults link.old) (L.faults link.new) (L.lost link.old) (L.lost link.new)
+    ensures serves { OnlyServes (L.plan link.old) (L.plan link.new) (L.faults link.old) (L.faults link.new)
+        (L.store_faults link.old) (L.store_faults link.new) (L.lost link.old) (L.lost link.new)
         (L.refusals link.old) (L.refusals link.new) }
     ensures wants { OnErr result (Rose (L.refusals link.old) (L.refusals link.new)) }
 {
@@ -97,7 +100,8 @@ fn let_go<L: Link>(waiting: &mut Waiting, link: &mut L, conn: u32) -> Result<(),
         (After terms result start hub.tree (IsFree terms start conn due hub waiting.new.on_hold.items))
         (L.journal link.old) (L.journal link.new) }
     ensures due { waiting.new.due.items ≡ waiting.old.due.items }
-    ensures serves { OnlyServes (L.plan link.old) (L.plan link.new) (L.faults link.old) (L.faults link.new) (L.lost link.old) (L.lost link.new)
+    ensures serves { OnlyServes (L.plan link.old) (L.plan link.new) (L.faults link.old) (L.faults link.new)
+        (L.store_faults link.old) (L.store_faults link.new) (L.lost link.old) (L.lost link.new)
         (L.refusals link.old) (L.refusals link.new) }
     ensures wants { OnErr result (Rose (L.refusals link.old) (L.refusals link.new)) }
 {
@@ -119,7 +123,8 @@ fn hang_up_closing<L: Link>(hub: &mut Hub, link: &mut L, conn: u32) -> Result<()
         (IsFree terms start conn due (held tree hub.old) on_hold)
         (After terms result start tree (IsServing terms start due (held tree hub.new) on_hold))
         (L.journal link.old) (L.journal link.new) }
-    ensures serves { OnlyServes (L.plan link.old) (L.plan link.new) (L.faults link.old) (L.faults link.new) (L.lost link.old) (L.lost link.new)
+    ensures serves { OnlyServes (L.plan link.old) (L.plan link.new) (L.faults link.old) (L.faults link.new)
+        (L.store_faults link.old) (L.store_faults link.new) (L.lost link.old) (L.lost link.new)
         (L.refusals link.old) (L.refusals link.new) }
     ensures wants { OnErr result (Rose (L.refusals link.old) (L.refusals link.new)) }
     ensures bounds { hub.new.bounds ≡ hub.old.bounds }
@@ -149,7 +154,8 @@ fn finish<L: Link>(
         (After terms result start tree (IsServing terms start due (held tree hub.new) waiting.new.on_hold.items))
         (L.journal link.old) (L.journal link.new) }
     ensures due { waiting.new.due.items ≡ waiting.old.due.items }
-    ensures serves { OnlyServes (L.plan link.old) (L.plan link.new) (L.faults link.old) (L.faults link.new) (L.lost link.old) (L.lost link.new)
+    ensures serves { OnlyServes (L.plan link.old) (L.plan link.new) (L.faults link.old) (L.faults link.new)
+        (L.store_faults link.old) (L.store_faults link.new) (L.lost link.old) (L.lost link.new)
         (L.refusals link.old) (L.refusals link.new) }
     ensures wants { OnErr result (Rose (L.refusals link.old) (L.refusals link.new)) }
     ensures bounds { hub.new.bounds ≡ hub.old.bounds }
@@ -175,7 +181,8 @@ pub fn settle<L: Link>(
         (After terms result start tree (IsServing terms start due (held tree hub.new) waiting.new.on_hold.items))
         (L.journal link.old) (L.journal link.new) }
     ensures due { waiting.new.due.items ≡ waiting.old.due.items }
-    ensures serves { OnlyServes (L.plan link.old) (L.plan link.new) (L.faults link.old) (L.faults link.new) (L.lost link.old) (L.lost link.new)
+    ensures serves { OnlyServes (L.plan link.old) (L.plan link.new) (L.faults link.old) (L.faults link.new)
+        (L.store_faults link.old) (L.store_faults link.new) (L.lost link.old) (L.lost link.new)
         (L.refusals link.old) (L.refusals link.new) }
     ensures wants { OnErr result (Rose (L.refusals link.old) (L.refusals link.new)) }
     ensures bounds { hub.new.bounds ≡ hub.old.bounds }
@@ -200,7 +207,8 @@ pub fn settle_all<L: Link>(
         (IsServing terms start waiting.old.due.items (held tree hub.old) waiting.old.on_hold.items)
         (After terms result start tree (IsServing terms start [] (held tree hub.new) waiting.new.on_hold.items))
         (L.journal link.old) (L.journal link.new) }
-    ensures serves { OnlyServes (L.plan link.old) (L.plan link.new) (L.faults link.old) (L.faults link.new) (L.lost link.old) (L.lost link.new)
+    ensures serves { OnlyServes (L.plan link.old) (L.plan link.new) (L.faults link.old) (L.faults link.new)
+        (L.store_faults link.old) (L.store_faults link.new) (L.lost link.old) (L.lost link.new)
         (L.refusals link.old) (L.refusals link.new) }
     ensures wants { OnErr result (Rose (L.refusals link.old) (L.refusals link.new)) }
     ensures bounds { hub.new.bounds ≡ hub.old.bounds }

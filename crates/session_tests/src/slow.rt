@@ -119,6 +119,8 @@ impl Link for HalfSlow {
 
     ghost faults = { λ _. 0 };
 
+    ghost store_faults = { λ _. 0 };
+
     ghost lost = { λ _. 0 };
 
     ghost refusals = { λ _. 0 };

@@ -34,7 +34,7 @@ struct Keeper {
     messages: &'static [&'static [u8]],
     given: usize,
     refuses: Refused,
-    faults: u64,
+    store_faults: u64,
     refusals: u64,
     calls: Vec<Call>,
     stored: Vec<u8>,
@@ -46,7 +46,7 @@ impl Keeper {
             messages,
             given: 0,
             refuses,
-            faults: 0,
+            store_faults: 0,
             refusals: 0,
             calls: Vec::new(alloc),
             stored: Vec::new(alloc),
@@ -55,13 +55,13 @@ impl Keeper {
 
     // Whether the call is to be refused, which is a fault.
     fn refuses(&mut self, call: Refused) -> bool
-        ensures refused { result ≡ true → Rose self.old.faults self.new.faults }
-        ensures kept { result ≡ false → self.new.faults ≡ self.old.faults }
+        ensures refused { result ≡ true → Rose self.old.store_faults self.new.store_faults }
+        ensures kept { result ≡ false → self.new.store_faults ≡ self.old.store_faults }
         ensures refusals { self.new.refusals ≡ self.old.refusals }
     {
-        let is_refused = self.refuses == call && self.faults == 0;
+        let is_refused = self.refuses == call && self.store_faults == 0;
         if is_refused {
-            self.faults = 1;
+            self.store_faults = 1;
         }
         is_refused
     }
@@ -85,7 +85,9 @@ impl Link for Keeper {
 
     ghost plan = { λ _. None };
 
-    ghost faults = { λ keeper. keeper.faults };
+    ghost faults = { λ _. 0 };
+
+    ghost store_faults = { λ keeper. keeper.store_faults };
 
     ghost lost = { λ _. 0 };
 

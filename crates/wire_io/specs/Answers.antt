@@ -30,8 +30,8 @@ unfoldable pub IsPlanned : (Plan → List ℕ) → Option Plan → Type 0
 IsPlanned calls None = Unit {0}
 IsPlanned calls (Some plan) = calls plan ≢ []
 
--- when each answer of `open`, `next` and the calls of the store may come; the count of faults rises with a fault and is
--- otherwise as it was
+-- when each answer of `open` and `next` may come, by the count of their faults, and of the calls of the store, by the count
+-- of those: it rises with a fault and is otherwise as it was
 unfoldable pub LinkCause : {T : Type 0} → Option Plan → ℕ → ℕ → Result T NextFault → Type 0
 LinkCause plan before after (Ok answer) = after ≡ before
 LinkCause plan before after (Err Failed) = Rose before after × IsPlanned (λ plan. plan.failing) plan

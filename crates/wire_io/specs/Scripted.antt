@@ -15,20 +15,21 @@ use Rattle.wire_io.specs.MemoryForms.{is_listed}
 use Rattle.wire_io.specs.link.Plan.{Plan}
 
 -- the journal and the plan, how many calls of `open`, `next` and of the store there were, and how many of `write`, and
--- the counts of faults, of lost connections and of calls for which there was no memory
+-- the counts of its faults, of the store's, of lost connections and of calls for which there was no memory
 pub record LinkState : Type 0 where
   pub journal : List Item
   pub plan : Plan
   pub calls : ℕ
   pub writes : ℕ
   pub faults : ℕ
+  pub store_faults : ℕ
   pub lost : ℕ
   pub refusals : ℕ
 
 -- a link that has done nothing yet
 abbrev pub fresh_link : List ScriptEvent → List ℕ → List ℕ → List ℕ → LinkState
 fresh_link events failing later gone =
-    record { journal = []; plan = record { to_come = events; failing = failing; later = later; gone = gone }; calls = 0; writes = 0; faults = 0; lost = 0; refusals = 0 }
+    record { journal = []; plan = record { to_come = events; failing = failing; later = later; gone = gone }; calls = 0; writes = 0; faults = 0; store_faults = 0; lost = 0; refusals = 0 }
 
 -- no call is listed to take nothing now and to find its connection lost
 abbrev pub AreApart : List ℕ → List ℕ → Type 0
@@ -59,7 +60,7 @@ unfoldable pub LinkOpensStore : LinkState → List ℕ → Result (Unit {0}) Nex
 LinkOpensStore old name (Ok answer) new = (is_listed old.calls old.plan.failing ≡ false)
     × (new ≡ record (with_item old (StoreOpened name true)) { calls = next_count old.calls })
 LinkOpensStore old name (Err Failed) new = (is_listed old.calls old.plan.failing ≡ true)
-    × (new ≡ record (with_item old (StoreOpened name false)) { calls = next_count old.calls; faults = next_count old.faults })
+    × (new ≡ record (with_item old (StoreOpened name false)) { calls = next_count old.calls; store_faults = next_count old.store_faults })
 LinkOpensStore old name (Err NoMemory) new = new ≡ record old { calls = next_count old.calls; refusals = next_count old.refusals }
 
 -- a call of the open store fails exactly at a listed call, and then notes nothing; nor after want of memory
@@ -67,7 +68,7 @@ unfoldable pub LinkStores : LinkState → Item → Result (Unit {0}) NextFault �
 LinkStores old item (Ok answer) new = (is_listed old.calls old.plan.failing ≡ false)
     × (new ≡ record (with_item old item) { calls = next_count old.calls })
 LinkStores old item (Err Failed) new = (is_listed old.calls old.plan.failing ≡ true)
-    × (new ≡ record old { calls = next_count old.calls; faults = next_count old.faults })
+    × (new ≡ record old { calls = next_count old.calls; store_faults = next_count old.store_faults })
 LinkStores old item (Err NoMemory) new = (is_listed old.calls old.plan.failing ≡ false)
     × (new ≡ record old { calls = next_count old.calls; refusals = next_count old.refusals })
 
@@ -75,7 +76,7 @@ LinkStores old item (Err NoMemory) new = (is_listed old.calls old.plan.failing �
 unfoldable pub LinkSyncs : LinkState → Result (Unit {0}) NextFault → LinkState → Type 0
 LinkSyncs old (Ok answer) new = (is_listed old.calls old.plan.failing ≡ false) × (new ≡ record old { calls = next_count old.calls })
 LinkSyncs old (Err Failed) new = (is_listed old.calls old.plan.failing ≡ true)
-    × (new ≡ record old { calls = next_count old.calls; faults = next_count old.faults })
+    × (new ≡ record old { calls = next_count old.calls; store_faults = next_count old.store_faults })
 LinkSyncs old (Err NoMemory) new = ⊥
 
 -- `next` fails exactly at a listed call, and then nothing else changes; nor after want of memory, which is counted

@@ -40,7 +40,7 @@ pub enum PutFault {
 /// Why a link did not open, gave no event, or stored nothing that is sure.
 #[derive(Clone, Copy, Debug, PartialEq, Error)]
 pub enum NextFault {
-    /// The link failed; its count of faults rose.
+    /// The link or its store failed; the count of that one's faults rose.
     #[error("the link failed")]
     Failed,
     /// There was no memory.

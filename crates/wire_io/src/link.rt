@@ -9,8 +9,9 @@ ghost use Rattle.wire_io.specs.Playing.{NextPlays};
 use crate::{Heard, Item, NextFault, NoMemory, Took};
 
 /// What gives the events of connections and takes octets for them. Where the link tells, `journal`
-/// is all that it did, and `plan` what it still has to give; `faults` counts its faults, `lost` the
-/// connections that it found lost, and `refusals` the calls that it answered with want of memory.
+/// is all that it did, and `plan` what it still has to give; `faults` counts the faults of `open` and `next`,
+/// `store_faults` those of the store's calls, `lost` the connections that it found lost, and `refusals` the
+/// calls that it answered with want of memory.
 pub trait Link {
     ghost use Rattle.std.specs.Prelude.{ℕ, Option, List};
     ghost use Rattle.wire_io.specs.declared.journal.Item.{Item};
@@ -21,6 +22,8 @@ pub trait Link {
     ghost plan: { Self → Option Plan };
 
     ghost faults: { Self → ℕ };
+
+    ghost store_faults: { Self → ℕ };
 
     ghost lost: { Self → ℕ };
 
@@ -34,6 +37,7 @@ pub trait Link {
         ensures tells { journal self.new ≡ journal self.old }
         ensures plan { plan self.new ≡ plan self.old }
         ensures faults { faults self.new ≡ faults self.old }
+        ensures store_faults { store_faults self.new ≡ store_faults self.old }
         ensures lost { lost self.new ≡ lost self.old }
         ensures refusals { refusals self.new ≡ refusals self.old };
 
@@ -46,26 +50,29 @@ pub trait Link {
         ensures refusals { RefusalCause (refusals self.old) (refusals self.new) result }
         // what stays
         ensures plan { plan self.new ≡ plan self.old }
+        ensures store_faults { store_faults self.new ≡ store_faults self.old }
         ensures lost { NeverFalls (lost self.old) (lost self.new) };
 
     /// From now on `store` appends to the file of this name, to which nobody else may then append; a file that
     /// isn't there is made. `Failed` is a fault, and is counted; after `NoMemory` nothing was done.
     fn open_store(&mut self, name: &str) -> Result<(), NextFault>
         ensures tells { StoreOpenTells (journal self.old) name.now result (journal self.new) }
-        ensures cause { LinkCause (plan self.old) (faults self.old) (faults self.new) result }
+        ensures cause { LinkCause (plan self.old) (store_faults self.old) (store_faults self.new) result }
         ensures refusals { RefusalCause (refusals self.old) (refusals self.new) result }
         // what stays
         ensures plan { plan self.new ≡ plan self.old }
+        ensures faults { faults self.new ≡ faults self.old }
         ensures lost { NeverFalls (lost self.old) (lost self.new) };
 
     /// Cuts the store to so many octets, which it has. `Failed` is a fault, and is counted; after
     /// `NoMemory` nothing was done.
     fn cut_store(&mut self, length: u64) -> Result<(), NextFault>
         ensures tells { NoteTells (journal self.old) (Item.StoreCut length) result (journal self.new) }
-        ensures cause { LinkCause (plan self.old) (faults self.old) (faults self.new) result }
+        ensures cause { LinkCause (plan self.old) (store_faults self.old) (store_faults self.new) result }
         ensures refusals { RefusalCause (refusals self.old) (refusals self.new) result }
         // what stays
         ensures plan { plan self.new ≡ plan self.old }
+        ensures faults { faults self.new ≡ faults self.old }
         ensures lost { NeverFalls (lost self.old) (lost self.new) };
 
     /// Appends the octets to the store. Until they are on the disk no octets are taken for any connection.
@@ -73,10 +80,11 @@ pub trait Link {
     /// was done.
     fn store(&mut self, octets: &[u8]) -> Result<(), NextFault>
         ensures tells { NoteTells (journal self.old) (Item.Stored octets.now) result (journal self.new) }
-        ensures cause { LinkCause (plan self.old) (faults self.old) (faults self.new) result }
+        ensures cause { LinkCause (plan self.old) (store_faults self.old) (store_faults self.new) result }
         ensures refusals { RefusalCause (refusals self.old) (refusals self.new) result }
         // what stays
         ensures plan { plan self.new ≡ plan self.old }
+        ensures faults { faults self.new ≡ faults self.old }
         ensures lost { NeverFalls (lost self.old) (lost self.new) };
 
     /// Has on the disk what was stored, called before `next`. It may be put off to a later call where `next`
@@ -84,10 +92,11 @@ pub trait Link {
     /// `Failed`, a fault, which is counted, a front of what was stored may be there.
     fn sync_store(&mut self) -> Result<(), NextFault>
         ensures tells { journal self.new ≡ journal self.old }
-        ensures cause { LinkCause (plan self.old) (faults self.old) (faults self.new) result }
+        ensures cause { LinkCause (plan self.old) (store_faults self.old) (store_faults self.new) result }
         ensures refusals { RefusalCause (refusals self.old) (refusals self.new) result }
         // what stays
         ensures plan { plan self.new ≡ plan self.old }
+        ensures faults { faults self.new ≡ faults self.old }
         ensures lost { NeverFalls (lost self.old) (lost self.new) };
 
     /// Waits for the next event; the octets of `Bytes` stand at the front of the buffer. `Failed` is
@@ -101,6 +110,8 @@ pub trait Link {
         // each refusal
         ensures cause { LinkCause (plan self.old) (faults self.old) (faults self.new) result }
         ensures refusals { RefusalCause (refusals self.old) (refusals self.new) result }
+        // what stays
+        ensures store_faults { store_faults self.new ≡ store_faults self.old }
         ensures lost { NeverFalls (lost self.old) (lost self.new) };
 
     /// Offers octets for the connection. `Gone` says that it was found lost, which the count of these
@@ -114,7 +125,8 @@ pub trait Link {
         ensures refusals { WriteRefusal (refusals self.old) (refusals self.new) result }
         // what stays
         ensures plan { plan self.new ≡ plan self.old }
-        ensures faults { faults self.new ≡ faults self.old };
+        ensures faults { faults self.new ≡ faults self.old }
+        ensures store_faults { store_faults self.new ≡ store_faults self.old };
 
     /// Stops the octets of the connection until it is released; where it may take octets again,
     /// `Ready` comes. After want of memory nothing was done.
@@ -123,6 +135,7 @@ pub trait Link {
         ensures refusals { NoteRefusal (refusals self.old) (refusals self.new) result }
         ensures plan { plan self.new ≡ plan self.old }
         ensures faults { faults self.new ≡ faults self.old }
+        ensures store_faults { store_faults self.new ≡ store_faults self.old }
         ensures lost { NeverFalls (lost self.old) (lost self.new) };
 
     /// Lets the octets of the connection come again. After want of memory nothing was done.
@@ -131,6 +144,7 @@ pub trait Link {
         ensures refusals { NoteRefusal (refusals self.old) (refusals self.new) result }
         ensures plan { plan self.new ≡ plan self.old }
         ensures faults { faults self.new ≡ faults self.old }
+        ensures store_faults { store_faults self.new ≡ store_faults self.old }
         ensures lost { NeverFalls (lost self.old) (lost self.new) };
 
     /// Ends the connection. After want of memory nothing was done.
@@ -139,5 +153,6 @@ pub trait Link {
         ensures refusals { NoteRefusal (refusals self.old) (refusals self.new) result }
         ensures plan { plan self.new ≡ plan self.old }
         ensures faults { faults self.new ≡ faults self.old }
+        ensures store_faults { store_faults self.new ≡ store_faults self.old }
         ensures lost { NeverFalls (lost self.old) (lost self.new) };
 }

@@ -36,6 +36,7 @@ pub struct ScriptLink {
     calls: u64,
     writes: u64,
     faults: u64,
+    store_faults: u64,
     lost: u64,
     refusals: u64,
 }
@@ -45,7 +46,7 @@ impl Model for ScriptLink {
 
     ghost Value = { LinkState };
 
-    ghost view = { λ link. record { journal = link.journal; plan = record { to_come = link.script; failing = link.failing.items; later = link.later.items; gone = link.gone.items }; calls = link.calls; writes = link.writes; faults = link.faults; lost = link.lost; refusals = link.refusals } };
+    ghost view = { λ link. record { journal = link.journal; plan = record { to_come = link.script; failing = link.failing.items; later = link.later.items; gone = link.gone.items }; calls = link.calls; writes = link.writes; faults = link.faults; store_faults = link.store_faults; lost = link.lost; refusals = link.refusals } };
 
     ghost invariant = { λ link. IsPlayable link.journal link.script };
 }
@@ -92,6 +93,7 @@ impl ScriptLink {
             calls: 0,
             writes: 0,
             faults: 0,
+            store_faults: 0,
             lost: 0,
             refusals: 0,
         }
@@ -178,6 +180,8 @@ impl Link for ScriptLink {
 
     ghost faults = { λ link. link.faults };
 
+    ghost store_faults = { λ link. link.store_faults };
+
     ghost lost = { λ link. link.lost };
 
     ghost refusals = { λ link. link.refusals };
@@ -187,6 +191,7 @@ impl Link for ScriptLink {
         ensures tells { Some self.new.journal ≡ Some self.old.journal }
         ensures plan { Some self.new.plan ≡ Some self.old.plan }
         ensures faults { self.new.faults ≡ self.old.faults }
+        ensures store_faults { self.new.store_faults ≡ self.old.store_faults }
         ensures lost { self.new.lost ≡ self.old.lost }
         ensures refusals { self.new.refusals ≡ self.old.refusals }
         ensures exact { self.new ≡ self.old }
@@ -199,6 +204,7 @@ impl Link for ScriptLink {
         ensures cause { LinkCause (Some self.old.plan) self.old.faults self.new.faults result }
         ensures refusals { RefusalCause self.old.refusals self.new.refusals result }
         ensures plan { Some self.new.plan ≡ Some self.old.plan }
+        ensures store_faults { self.new.store_faults ≡ self.old.store_faults }
         ensures lost { NeverFalls self.old.lost self.new.lost }
         ensures exact { LinkOpens self.old address.now sessions result self.new }
     {
@@ -221,9 +227,10 @@ impl Link for ScriptLink {
     /// Notes the store as opened, or fails at the chosen calls. Nothing is written to any file.
     fn open_store(&mut self, name: &str) -> Result<(), NextFault>
         ensures tells { StoreOpenTells (Some self.old.journal) name.now result (Some self.new.journal) }
-        ensures cause { LinkCause (Some self.old.plan) self.old.faults self.new.faults result }
+        ensures cause { LinkCause (Some self.old.plan) self.old.store_faults self.new.store_faults result }
         ensures refusals { RefusalCause self.old.refusals self.new.refusals result }
         ensures plan { Some self.new.plan ≡ Some self.old.plan }
+        ensures faults { self.new.faults ≡ self.old.faults }
         ensures lost { NeverFalls self.old.lost self.new.lost }
         ensures exact { LinkOpensStore self.old name.now result self.new }
     {
@@ -232,7 +239,7 @@ impl Link for ScriptLink {
                 self.refusals = raised(self.refusals);
                 return Err(NextFault::NoMemory);
             }
-            self.faults = raised(self.faults);
+            self.store_faults = raised(self.store_faults);
             return Err(NextFault::Failed);
         }
         if self.journal.open_store(name, true).is_err() {
@@ -246,14 +253,15 @@ impl Link for ScriptLink {
     /// Notes the store as cut, or fails at the chosen calls. No file is cut.
     fn cut_store(&mut self, length: u64) -> Result<(), NextFault>
         ensures tells { NoteTells (Some self.old.journal) (Item.StoreCut length) result (Some self.new.journal) }
-        ensures cause { LinkCause (Some self.old.plan) self.old.faults self.new.faults result }
+        ensures cause { LinkCause (Some self.old.plan) self.old.store_faults self.new.store_faults result }
         ensures refusals { RefusalCause self.old.refusals self.new.refusals result }
         ensures plan { Some self.new.plan ≡ Some self.old.plan }
+        ensures faults { self.new.faults ≡ self.old.faults }
         ensures lost { NeverFalls self.old.lost self.new.lost }
         ensures exact { LinkStores self.old (Item.StoreCut length) result self.new }
     {
         if self.fails() {
-            self.faults = raised(self.faults);
+            self.store_faults = raised(self.store_faults);
             return Err(NextFault::Failed);
         }
         if self.journal.cut_store(length).is_err() {
@@ -267,14 +275,15 @@ impl Link for ScriptLink {
     /// Notes the octets as stored, or fails at the chosen calls. Nothing is written to any file.
     fn store(&mut self, octets: &[u8]) -> Result<(), NextFault>
         ensures tells { NoteTells (Some self.old.journal) (Item.Stored octets.now) result (Some self.new.journal) }
-        ensures cause { LinkCause (Some self.old.plan) self.old.faults self.new.faults result }
+        ensures cause { LinkCause (Some self.old.plan) self.old.store_faults self.new.store_faults result }
         ensures refusals { RefusalCause self.old.refusals self.new.refusals result }
         ensures plan { Some self.new.plan ≡ Some self.old.plan }
+        ensures faults { self.new.faults ≡ self.old.faults }
         ensures lost { NeverFalls self.old.lost self.new.lost }
         ensures exact { LinkStores self.old (Item.Stored octets.now) result self.new }
     {
         if self.fails() {
-            self.faults = raised(self.faults);
+            self.store_faults = raised(self.store_faults);
             return Err(NextFault::Failed);
         }
         if self.journal.note(Note::Stored, 0, octets).is_err() {
@@ -288,14 +297,15 @@ impl Link for ScriptLink {
     /// Does nothing, or fails at the chosen calls.
     fn sync_store(&mut self) -> Result<(), NextFault>
         ensures tells { Some self.new.journal ≡ Some self.old.journal }
-        ensures cause { LinkCause (Some self.old.plan) self.old.faults self.new.faults result }
+        ensures cause { LinkCause (Some self.old.plan) self.old.store_faults self.new.store_faults result }
         ensures refusals { RefusalCause self.old.refusals self.new.refusals result }
         ensures plan { Some self.new.plan ≡ Some self.old.plan }
+        ensures faults { self.new.faults ≡ self.old.faults }
         ensures lost { NeverFalls self.old.lost self.new.lost }
         ensures exact { LinkSyncs self.old result self.new }
     {
         if self.fails() {
-            self.faults = raised(self.faults);
+            self.store_faults = raised(self.store_faults);
             return Err(NextFault::Failed);
         }
         Ok(())
@@ -310,6 +320,7 @@ impl Link for ScriptLink {
         ensures plays { NextPlays (Some self.old.journal) (Some self.old.plan) buf.new result (Some self.new.plan) }
         ensures cause { LinkCause (Some self.old.plan) self.old.faults self.new.faults result }
         ensures refusals { RefusalCause self.old.refusals self.new.refusals result }
+        ensures store_faults { self.new.store_faults ≡ self.old.store_faults }
         ensures lost { NeverFalls self.old.lost self.new.lost }
         ensures exact { LinkHears self.old result self.new }
     {
@@ -334,6 +345,7 @@ impl Link for ScriptLink {
         ensures refusals { WriteRefusal self.old.refusals self.new.refusals result }
         ensures plan { Some self.new.plan ≡ Some self.old.plan }
         ensures faults { self.new.faults ≡ self.old.faults }
+        ensures store_faults { self.new.store_faults ≡ self.old.store_faults }
         ensures exact { LinkWrites self.old conn bytes.now result self.new }
     {
         let call = self.writes;
@@ -366,6 +378,7 @@ impl Link for ScriptLink {
         ensures refusals { NoteRefusal self.old.refusals self.new.refusals result }
         ensures plan { Some self.new.plan ≡ Some self.old.plan }
         ensures faults { self.new.faults ≡ self.old.faults }
+        ensures store_faults { self.new.store_faults ≡ self.old.store_faults }
         ensures lost { NeverFalls self.old.lost self.new.lost }
         ensures exact { LinkNotes self.old (Item.Held conn) result self.new }
     {
@@ -382,6 +395,7 @@ impl Link for ScriptLink {
         ensures refusals { NoteRefusal self.old.refusals self.new.refusals result }
         ensures plan { Some self.new.plan ≡ Some self.old.plan }
         ensures faults { self.new.faults ≡ self.old.faults }
+        ensures store_faults { self.new.store_faults ≡ self.old.store_faults }
         ensures lost { NeverFalls self.old.lost self.new.lost }
         ensures exact { LinkNotes self.old (Item.Released conn) result self.new }
     {
@@ -398,6 +412,7 @@ impl Link for ScriptLink {
         ensures refusals { NoteRefusal self.old.refusals self.new.refusals result }
         ensures plan { Some self.new.plan ≡ Some self.old.plan }
         ensures faults { self.new.faults ≡ self.old.faults }
+        ensures store_faults { self.new.store_faults ≡ self.old.store_faults }
         ensures lost { NeverFalls self.old.lost self.new.lost }
         ensures exact { LinkNotes self.old (Item.HungUp conn) result self.new }
     {

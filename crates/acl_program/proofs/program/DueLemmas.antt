@@ -125,7 +125,7 @@ status_of-stopped asks = refl
 -- a data file was to be served, and the link didn't fail and gave Stop
 module _ (words : List (List ℕ)) (files : Option Files) (before after : ℕ) (asks : ServeAsked) (old new : Linked)
     (is : IsCommand words (Serve asks.serving)) (known : IsLoadedFrom (IsTold files) asks.serving.data_file asks.serving.changes asks.content asks.left) (still : Rose before after → ⊥)
-    (no_fault : Rose old.faults new.faults → ⊥) (hears : HearsStop old.journal new.journal) where
+    (no_fault : Rose old.faults new.faults → ⊥) (no_store_fault : Rose old.store_faults new.store_faults → ⊥) (hears : HearsStop old.journal new.journal) where
   serve_ready : (entries : List EntryInformation) × IsReady files (Serve asks.serving) entries
   unfolding ReadySample
   serve_ready = ready_loaded files (Serve asks.serving) asks.serving.data_file asks.serving.changes asks.left refl refl refl tt tt
@@ -133,7 +133,7 @@ module _ (words : List (List ℕ)) (files : Option Files) (before after : ℕ) (
 
   serve_own : (outcome : Outcome) → Links words outcome old new → IsDone OfServe outcome → (status_of outcome ≡ NoMemory) ⊎ (status_of outcome ≡ Done)
   unfolding Links status_of
-  serve_own (Served other end) links done = served_done other old new no_fault hears end links
+  serve_own (Served other end) links done = served_done other old new no_fault no_store_fault hears end links
   serve_own outcome links done = absurd done
 
   serve_due : (outcome : Outcome) → Comes words files before after outcome → Links words outcome old new → (status_of outcome ≡ NoMemory) ⊎ (status_of outcome ≡ Done)
@@ -211,7 +211,7 @@ due_comes words files before after old new outcome (Replayed events turns dump e
 due_comes words files before after old new outcome (Served asks end) is still comes links =
     let P : ServeEnd → Type 0 = λ how. (status_of outcome ≡ NoMemory) ⊎ (status_of outcome ≡ status_of (Served asks how)) in
     subst P (sym is.0) (subst (λ wanted. (status_of outcome ≡ NoMemory) ⊎ (status_of outcome ≡ wanted)) (sym (status_of-stopped asks))
-    (serve_due words files before after asks old new is.1 is.2 still is.3 is.4 outcome comes links))
+    (serve_due words files before after asks old new is.1 is.2 still is.3 is.4 is.5 outcome comes links))
 due_comes words files before after old new outcome (Answered text) is still comes links =
     as_status outcome (Answered text) (answer_due words files before after text is still outcome comes)
 due_comes words files before after old new outcome (Explained line cause content) is still comes links = absurd is

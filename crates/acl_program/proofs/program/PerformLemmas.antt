@@ -12,12 +12,13 @@ use Rattle.acl_program.specs.declared.status.Status.TheVariants.{NoMemory}
 use Rattle.command_files.specs.declared.loading.Trouble.{Trouble}
 use Rattle.command_files.specs.declared.loading.Trouble.TheVariants as trouble
 use Rattle.command_files.specs.loading.Accepting.{IsUnread, HoldsIn}
+use Rattle.command_files.specs.declared.changing.ChangesCause.{ChangesCause}
 use Rattle.command_files.specs.declared.changing.Loaded.{Loaded}
 use Rattle.command_files.specs.loading.Changing.{left_of}
 use Rattle.command_files.specs.loading.Loading.{IsRefused, LoadsData, LoadsScript, LoadsTree}
 use Rattle.acl_program.specs.Answering.{Tells}
 use Rattle.acl_program.specs.Outcomes.{Checked, Dumped, Replayed, Answered, OutOfMemory}
-use Rattle.acl_program.specs.program.Causes.{AsksData, Comes, IsBadSecond, Links, RefusesSecond, Second, data_of, changes_of, second_of}
+use Rattle.acl_program.specs.program.Causes.{AsksData, Comes, IsBadSecond, Links, OpensFor, RefusesSecond, Second, data_of, changes_of, second_of}
 use Rattle.acl_program.specs.program.Outside.{Linked, Outside, beside}
 use Rattle.acl_program.specs.program.Playing.{Ends, ComesFor, LinksFor, Performs}
 use Rattle.acl_program.specs.Troubles.{outcome_of}
@@ -40,25 +41,27 @@ data_refused asked name files before after (trouble.BadLine file line) names loa
 data_refused asked name files before after (trouble.BadChanges line cause) names loads = absurd loads
 data_refused asked name files before after trouble.NoMemory names loads = λ words is. loads
 
--- a file that wasn't read leaves the link as it is
-links_refused : (asked : CommandView) (why : Trouble) (before after : Linked) → after ≡ before → LinksFor asked (outcome_of why) before after
+-- a file that wasn't read leaves the link as it is, unless it is one of changes that is to be served
+links_refused :
+    (asked : CommandView) (why : Trouble) (before after : Linked) → after ≡ before → ((line : ℕ) (cause : ChangesCause) → why ≡ trouble.BadChanges line cause → OpensFor asked before after)
+    → LinksFor asked (outcome_of why) before after
 unfolding Links
-links_refused asked trouble.NoFile before after stays = λ words is. inl stays
-links_refused asked (trouble.BadData line cause) before after stays = λ words is. stays
-links_refused asked (trouble.BadLine file line) before after stays = λ words is. stays
-links_refused asked (trouble.BadChanges line cause) before after stays = λ words is. inl stays
-links_refused asked trouble.NoMemory before after stays = λ words is. inl stays
+links_refused asked trouble.NoFile before after stays opens = λ words is. inl stays
+links_refused asked (trouble.BadData line cause) before after stays opens = λ words is. stays
+links_refused asked (trouble.BadLine file line) before after stays opens = λ words is. stays
+links_refused asked (trouble.BadChanges line cause) before after stays opens = λ words is. (asked, is, opens _ _ refl)
+links_refused asked trouble.NoMemory before after stays opens = λ words is. inl stays
 
 pub Performs-refused :
     (asked : CommandView) (name : List ℕ) (before after : Outside) (status : Status) (why : Trouble)
     → data_of asked ≡ Some name → LoadsData before.shelf.files name before.shelf.faults after.shelf.faults (Err why) → Ends (outcome_of why) before.out status after.out
     → after.link ≡ before.link → Performs asked before status after
-unfolding Performs
+unfolding Performs LoadsData
 Performs-refused asked name before after status why names loads ends stays = (
   outcome_of why,
   data_refused asked name before.shelf.files before.shelf.faults after.shelf.faults why names loads,
   ends,
-  links_refused asked why before.link after.link stays,
+  links_refused asked why before.link after.link stays (λ line cause is. absurd (subst (λ cause. LoadsData before.shelf.files name before.shelf.faults after.shelf.faults (Err cause)) is loads)),
 )
 
 -- a data file with its changes, of which one wasn't taken
@@ -80,13 +83,13 @@ tree_refused asked name files before after trouble.NoMemory names loads = λ wor
 pub Performs-tree_refused :
     (asked : CommandView) (name : List ℕ) (before after : Outside) (status : Status) (why : Trouble)
     → data_of asked ≡ Some name → LoadsTree before.shelf.files name (changes_of asked) before.shelf.faults after.shelf.faults (Err why) → Ends (outcome_of why) before.out status after.out
-    → after.link ≡ before.link → Performs asked before status after
+    → after.link ≡ before.link → OpensFor asked before.link after.link → Performs asked before status after
 unfolding Performs
-Performs-tree_refused asked name before after status why names loads ends stays = (
+Performs-tree_refused asked name before after status why names loads ends stays opens = (
   outcome_of why,
   tree_refused asked name before.shelf.files before.shelf.faults after.shelf.faults why names loads,
   ends,
-  links_refused asked why before.link after.link stays,
+  links_refused asked why before.link after.link stays (λ line cause is. opens),
 )
 
 -- a tree that was checked, or put again
@@ -136,12 +139,12 @@ pub Performs-second_refused :
     → data_of asked ≡ Some name → second_of asked ≡ Some read → ((line : ℕ) (content : List ℕ) → bad line content → IsBadSecond read.kind (entries_of rows) line content)
     → LoadsData before.shelf.files name before.shelf.faults middle (Ok rows) → IsRefused read.kind bad before.shelf.files read.name middle after.shelf.faults why
     → Ends (outcome_of why) before.out status after.out → after.link ≡ before.link → Performs asked before status after
-unfolding Performs
+unfolding Performs IsRefused
 Performs-second_refused asked name read bad before after middle status rows why has_data has_second is_bad loads refused ends stays = (
   outcome_of why,
   second_refused asked name read rows bad before.shelf.files before.shelf.faults middle after.shelf.faults why has_data has_second is_bad loads refused,
   ends,
-  links_refused asked why before.link after.link stays,
+  links_refused asked why before.link after.link stays (λ line cause is. absurd (subst (IsRefused read.kind bad before.shelf.files read.name middle after.shelf.faults) is refused)),
 )
 
 -- a command after its data file was loaded, from the shelf as it then was

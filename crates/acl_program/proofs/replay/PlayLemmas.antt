@@ -88,49 +88,49 @@ plays_journal t left events turns ended.StoreFault known plan after is later gon
 plays_journal t left events turns ended.NoMemory known plan after is later gone serves played fails stores = tt
 
 -- a link without planned faults has none
-no_fault : (plan : Plan) (before after : ℕ) (how : Ended) → plan.failing ≡ [] → EndsFor false (Some plan) before after how → how ≡ ended.LinkFault → ⊥
+no_fault : (plan : Plan) (before after store_before store_after : ℕ) (how : Ended) → plan.failing ≡ [] → EndsFor false (Some plan) before after store_before store_after how → how ≡ ended.LinkFault → ⊥
 unfolding EndsFor
-no_fault plan before after ended.Stopped none cause is = cc
-no_fault plan before after ended.TurnsSpent none cause is = cc
-no_fault plan before after ended.LinkFault none cause is = cause.1 none
-no_fault plan before after ended.StoreFault none cause is = cc
-no_fault plan before after ended.NoMemory none cause is = cc
+no_fault plan before after store_before store_after ended.Stopped none cause is = cc
+no_fault plan before after store_before store_after ended.TurnsSpent none cause is = cc
+no_fault plan before after store_before store_after ended.LinkFault none cause is = cause.2 none
+no_fault plan before after store_before store_after ended.StoreFault none cause is = cc
+no_fault plan before after store_before store_after ended.NoMemory none cause is = cc
 
 -- where no changes are kept no store fails
-no_store_fault : (plan : Plan) (before after : ℕ) (how : Ended) → EndsFor false (Some plan) before after how → how ≡ ended.StoreFault → ⊥
+no_store_fault : (plan : Plan) (before after store_before store_after : ℕ) (how : Ended) → EndsFor false (Some plan) before after store_before store_after how → how ≡ ended.StoreFault → ⊥
 unfolding EndsFor
-no_store_fault plan before after ended.Stopped cause is = cc
-no_store_fault plan before after ended.TurnsSpent cause is = cc
-no_store_fault plan before after ended.LinkFault cause is = cc
-no_store_fault plan before after ended.StoreFault cause is = let kept : false ≡ true = cause.2 in cc
-no_store_fault plan before after ended.NoMemory cause is = cc
+no_store_fault plan before after store_before store_after ended.Stopped cause is = cc
+no_store_fault plan before after store_before store_after ended.TurnsSpent cause is = cc
+no_store_fault plan before after store_before store_after ended.LinkFault cause is = cc
+no_store_fault plan before after store_before store_after ended.StoreFault cause is = let kept : false ≡ true = cause.3 in cc
+no_store_fault plan before after store_before store_after ended.NoMemory cause is = cc
 
 -- the loop over a script's link
 plays_served :
-    (t left : DirectoryEntries) (events : List ScriptEvent) (turns : ℕ) (how : Ended) (journal : List Item) (plan after : Plan) (faults_before faults_after : ℕ)
+    (t left : DirectoryEntries) (events : List ScriptEvent) (turns : ℕ) (how : Ended) (journal : List Item) (plan after : Plan) (faults_before faults_after store_before store_after : ℕ)
     → plan ≡ record { to_come = events; failing = []; later = []; gone = [] }
     → Serves no_terms t left turns (Some []) how (Some journal) → PlaysOut turns (Some []) (Some plan) how (Some journal) (Some after)
-    → EndsFor false (Some plan) faults_before faults_after how → Plays t left events turns how journal
+    → EndsFor false (Some plan) faults_before faults_after store_before store_after how → Plays t left events turns how journal
 unfolding Serves PlaysOut
-plays_served t left events turns how journal plan after faults_before faults_after is served plays cause =
+plays_served t left events turns how journal plan after faults_before faults_after store_before store_after is served plays cause =
     let serves = served [] refl in
     let known : List Item = serves.0 in
     let same : journal ≡ known = cc (serves.1) in
     let played = plays [] known plan refl serves.1 refl in
     let P : List Item → Type 0 = λ heard_all. Plays t left events turns how heard_all in
     subst P (sym same) (plays_journal t left events turns how known plan played.0 (ap (λ p. p.to_come) is) (ap (λ p. p.later) is) (ap (λ p. p.gone) is) serves.2 played.2
-    (no_fault plan faults_before faults_after how (ap (λ p. p.failing) is) cause) (no_store_fault plan faults_before faults_after how cause))
+    (no_fault plan faults_before faults_after store_before store_after how (ap (λ p. p.failing) is) cause) (no_store_fault plan faults_before faults_after store_before store_after how cause))
 
 -- the same of a link that has only a script
 pub Plays-link :
     (t left : DirectoryEntries) (turns : ℕ) (how : Ended) (old new : LinkState) → old ≡ fresh_link old.plan.to_come [] [] []
     → Serves no_terms t left turns (Some old.journal) how (Some new.journal) → PlaysOut turns (Some old.journal) (Some old.plan) how (Some new.journal) (Some new.plan)
-    → EndsFor false (Some old.plan) old.faults new.faults how → Plays t left old.plan.to_come turns how new.journal
+    → EndsFor false (Some old.plan) old.faults new.faults old.store_faults new.store_faults how → Plays t left old.plan.to_come turns how new.journal
 Plays-link t left turns how old new fresh serves plays cause =
     let none : old.journal ≡ [] = ap (λ link. link.journal) fresh in
     let P : List Item → Type 0 = λ journal. Serves no_terms t left turns (Some journal) how (Some new.journal) in
     let Q : List Item → Type 0 = λ journal. PlaysOut turns (Some journal) (Some old.plan) how (Some new.journal) (Some new.plan) in
-    plays_served t left old.plan.to_come turns how new.journal old.plan new.plan old.faults new.faults (ap (λ link. link.plan) fresh) (subst P none serves) (subst Q none plays) cause
+    plays_served t left old.plan.to_come turns how new.journal old.plan new.plan old.faults new.faults old.store_faults new.store_faults (ap (λ link. link.plan) fresh) (subst P none serves) (subst Q none plays) cause
 
 -- good entries leave good ones, whatever is heard, where the steps of sessions do
 pub Good-link : ((entries : DirectoryEntries) (steps : List Step) → IsGoodTree entries → IsGoodTree (run (rules no_terms) entries steps).tree)

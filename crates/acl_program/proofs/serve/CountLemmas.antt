@@ -1,4 +1,4 @@
--- Lemmas on the ends of serving: what each says of the program's status, and of the link's count of faults.
+-- Lemmas on the ends of serving: what each says of the program's status, and of the link's counts of faults.
 use Rattle.std.proofs.Common.{◌≡◌, ℕ, Bool, true, false, List, ◌++◌, Option, Some, Ok, refl, sym, ap, ◌∙◌, subst, inl, inr, ◌⊎◌, append_assoc}
 use Rattle.std.specs.Prelude.{is_some}
 use Rattle.std.proofs.lemmas.List.{append_cancel_left}
@@ -15,10 +15,10 @@ use Rattle.session_hub.specs.serve.Loops.{Serves, EndsFor}
 use Rattle.acl_program.specs.declared.status.Status.{Status}
 use Rattle.acl_program.specs.declared.status.Status.TheVariants.{Done, LinkFault, TurnsSpent, NoMemory, StoreFault}
 use Rattle.acl_program.specs.program.Causes.{HearsStop}
-use Rattle.acl_program.specs.program.Outside.{Linked}
+use Rattle.acl_program.specs.program.Outside.{Linked, NoneFailed, LinkFailed, StoreFailed}
 use Rattle.acl_program.specs.serve.Storing.{ServeAsked, StoreCall, IsPrepared, StoreFails}
 use Rattle.acl_program.specs.serve.Serving.{ServeEnd, NotStored, NotBegun, NotOpened, NotServed, LoopEnded, Opens, ServesUntil, ServesPrepared, LinkListens, LinkServes, serve_status}
-use Rattle.acl_program.proofs.serve.StoreLemmas.{GoesOn, fails_rose, goes_more, prepared_count, prepared_goes}
+use Rattle.acl_program.proofs.serve.StoreLemmas.{GoesOn, fails_rose, goes_more, none_then, prepared_count, prepared_goes, store_failed}
 
 -- serving has one of five statuses
 pub serve_not : (wanted : Status) (end : ServeEnd) → wanted ≡ serve_status end
@@ -51,21 +51,21 @@ either_way asked (LoopEnded how) before after serves = inr serves
 
 -- once the store is ready
 module _ (asked : ServeAsked) (before after : Linked) where
-  -- a fault of the link raised its count
-  listens_rose : (end : ServeEnd) → LinkFault ≡ serve_status end → LinkListens asked end before after → Rose before.faults after.faults
+  -- a fault of the link raised its count alone
+  listens_rose : (end : ServeEnd) → LinkFault ≡ serve_status end → LinkListens asked end before after → LinkFailed before after
   unfolding LinkListens LinkCause EndsFor
   listens_rose (NotStored call fault) is serves = absurd serves
   listens_rose NotBegun is serves = absurd (cc)
-  listens_rose NotOpened is serves = serves.cause.0
+  listens_rose NotOpened is serves = (serves.cause.0, serves.stays)
   listens_rose NotServed is serves = absurd (cc)
   listens_rose (LoopEnded ended.Stopped) is serves = absurd (cc)
   listens_rose (LoopEnded ended.TurnsSpent) is serves = absurd (cc)
-  listens_rose (LoopEnded ended.LinkFault) is serves = subst (λ count. Rose count after.faults) serves.1.cause serves.2.cause.0
+  listens_rose (LoopEnded ended.LinkFault) is serves = (subst (λ count. Rose count after.faults) serves.1.cause serves.2.cause.0, serves.2.cause.1 ∙ serves.1.stays)
   listens_rose (LoopEnded ended.StoreFault) is serves = absurd (cc)
   listens_rose (LoopEnded ended.NoMemory) is serves = absurd (cc)
 
-  -- so did one of the store, which has a file
-  stores_rose : (end : ServeEnd) → StoreFault ≡ serve_status end → LinkListens asked end before after → (is_some asked.serving.changes ≡ true) × Rose before.faults after.faults
+  -- and one of the store the store's, which has a file
+  stores_rose : (end : ServeEnd) → StoreFault ≡ serve_status end → LinkListens asked end before after → (is_some asked.serving.changes ≡ true) × StoreFailed before after
   unfolding LinkListens LinkCause EndsFor
   stores_rose (NotStored call fault) is serves = absurd serves
   stores_rose NotBegun is serves = absurd (cc)
@@ -74,19 +74,19 @@ module _ (asked : ServeAsked) (before after : Linked) where
   stores_rose (LoopEnded ended.Stopped) is serves = absurd (cc)
   stores_rose (LoopEnded ended.TurnsSpent) is serves = absurd (cc)
   stores_rose (LoopEnded ended.LinkFault) is serves = absurd (cc)
-  stores_rose (LoopEnded ended.StoreFault) is serves = (serves.2.cause.2, subst (λ count. Rose count after.faults) serves.1.cause serves.2.cause.0)
+  stores_rose (LoopEnded ended.StoreFault) is serves = (serves.2.cause.3, store_failed before serves.0 after (serves.1.cause, serves.1.stays) (serves.2.cause.0, serves.2.cause.1))
   stores_rose (LoopEnded ended.NoMemory) is serves = absurd (cc)
 
-  -- the count stays where no fault is answered, and memory was there
+  -- both counts stay where no fault is answered, and memory was there
   listens_stay : (end : ServeEnd) (status : Status) → status ≡ serve_status end → (status ≡ LinkFault → ⊥) → (status ≡ StoreFault → ⊥) → (status ≡ NoMemory → ⊥)
-      → LinkListens asked end before after → after.faults ≡ before.faults
+      → LinkListens asked end before after → NoneFailed before after
   unfolding LinkListens LinkCause EndsFor
   listens_stay (NotStored call fault) status is not_fault not_store not_memory serves = absurd serves
-  listens_stay NotBegun status is not_fault not_store not_memory serves = serves.cause
+  listens_stay NotBegun status is not_fault not_store not_memory serves = (serves.cause, serves.stays)
   listens_stay NotOpened status is not_fault not_store not_memory serves = absurd (not_fault is)
-  listens_stay NotServed status is not_fault not_store not_memory serves = serves.cause
-  listens_stay (LoopEnded ended.Stopped) status is not_fault not_store not_memory serves = serves.2.cause ∙ serves.1.cause
-  listens_stay (LoopEnded ended.TurnsSpent) status is not_fault not_store not_memory serves = serves.2.cause ∙ serves.1.cause
+  listens_stay NotServed status is not_fault not_store not_memory serves = (serves.cause, serves.stays)
+  listens_stay (LoopEnded ended.Stopped) status is not_fault not_store not_memory serves = none_then before serves.0 after (serves.1.cause, serves.1.stays) serves.2.cause
+  listens_stay (LoopEnded ended.TurnsSpent) status is not_fault not_store not_memory serves = none_then before serves.0 after (serves.1.cause, serves.1.stays) serves.2.cause
   listens_stay (LoopEnded ended.LinkFault) status is not_fault not_store not_memory serves = absurd (not_fault is)
   listens_stay (LoopEnded ended.StoreFault) status is not_fault not_store not_memory serves = absurd (not_store is)
   listens_stay (LoopEnded ended.NoMemory) status is not_fault not_store not_memory serves = absurd (not_memory is)
@@ -98,36 +98,39 @@ not_of_link call next.NoMemory is = cc
 
 -- the same of all that was done
 module _ (asked : ServeAsked) (before after : Linked) (end : ServeEnd) (serves : LinkServes asked end before after) where
-  pub fault_rose : LinkFault ≡ serve_status end → Rose before.faults after.faults
+  pub fault_rose : LinkFault ≡ serve_status end → LinkFailed before after
   fault_rose is = by (either_way asked end before after serves)
     where
-      by : FailedStore asked end before after ⊎ ServesPrepared asked end before after → Rose before.faults after.faults
+      by : FailedStore asked end before after ⊎ ServesPrepared asked end before after → LinkFailed before after
       by (inl failed) = absurd (not_of_link failed.call failed.fault (is ∙ ap serve_status failed.is))
-      by (inr on) = subst (λ count. Rose count after.faults) (prepared_count asked asked.serving.changes before on.0 on.1) (listens_rose asked on.0 after end is on.2)
+      by (inr on) =
+          let kept = prepared_count asked asked.serving.changes before on.0 on.1 in
+          let rose = listens_rose asked on.0 after end is on.2 in
+          (subst (λ count. Rose count after.faults) kept.0 rose.0, rose.1 ∙ kept.1)
 
-  pub store_rose : StoreFault ≡ serve_status end → (is_some asked.serving.changes ≡ true) × Rose before.faults after.faults
+  pub store_rose : StoreFault ≡ serve_status end → (is_some asked.serving.changes ≡ true) × StoreFailed before after
   store_rose is = by (either_way asked end before after serves)
     where
-      failed : (call : StoreCall) (fault : NextFault) → StoreFault ≡ serve_status (NotStored call fault) → StoreFails asked call fault before after → (is_some asked.serving.changes ≡ true) × Rose before.faults after.faults
+      failed : (call : StoreCall) (fault : NextFault) → StoreFault ≡ serve_status (NotStored call fault) → StoreFails asked call fault before after → (is_some asked.serving.changes ≡ true) × StoreFailed before after
       failed call next.Failed own fails = fails_rose asked call before after fails
       failed call next.NoMemory own fails = absurd (cc)
 
-      by : FailedStore asked end before after ⊎ ServesPrepared asked end before after → (is_some asked.serving.changes ≡ true) × Rose before.faults after.faults
+      by : FailedStore asked end before after ⊎ ServesPrepared asked end before after → (is_some asked.serving.changes ≡ true) × StoreFailed before after
       by (inl own) = failed own.call own.fault (is ∙ ap serve_status own.is) own.fails
       by (inr on) =
           let rose = stores_rose asked on.0 after end is on.2 in
-          (rose.0, subst (λ count. Rose count after.faults) (prepared_count asked asked.serving.changes before on.0 on.1) rose.1)
+          (rose.0, store_failed before on.0 after (prepared_count asked asked.serving.changes before on.0 on.1) rose.1)
 
-  pub serve_count_stays : (status : Status) → status ≡ serve_status end → (status ≡ LinkFault → ⊥) → (status ≡ StoreFault → ⊥) → (status ≡ NoMemory → ⊥) → after.faults ≡ before.faults
+  pub serve_count_stays : (status : Status) → status ≡ serve_status end → (status ≡ LinkFault → ⊥) → (status ≡ StoreFault → ⊥) → (status ≡ NoMemory → ⊥) → NoneFailed before after
   serve_count_stays status is not_fault not_store not_memory = by (either_way asked end before after serves)
     where
-      failed : (call : StoreCall) (fault : NextFault) → status ≡ serve_status (NotStored call fault) → after.faults ≡ before.faults
+      failed : (call : StoreCall) (fault : NextFault) → status ≡ serve_status (NotStored call fault) → NoneFailed before after
       failed call next.Failed own = absurd (not_store own)
       failed call next.NoMemory own = absurd (not_memory own)
 
-      by : FailedStore asked end before after ⊎ ServesPrepared asked end before after → after.faults ≡ before.faults
+      by : FailedStore asked end before after ⊎ ServesPrepared asked end before after → NoneFailed before after
       by (inl own) = failed own.call own.fault (is ∙ ap serve_status own.is)
-      by (inr on) = listens_stay asked on.0 after end status is not_fault not_store not_memory on.2 ∙ prepared_count asked asked.serving.changes before on.0 on.1
+      by (inr on) = none_then before on.0 after (prepared_count asked asked.serving.changes before on.0 on.1) (listens_stay asked on.0 after end status is not_fault not_store not_memory on.2)
 
 -- `open` is not Stop
 opening-other : (address : List ℕ) (sessions : ℕ) (ok : Bool) → stops (item.OpenedAt address sessions ok) ≡ false
@@ -162,22 +165,22 @@ not_spent asked before ready opened after hears prepared opens serves =
     let clash : true ≡ false = sym hears.4 ∙ ap was_stopped same ∙ goes_on in
     cc
 
--- serving is done where the link didn't fail and gave Stop, but for want of memory
-module _ (asked : ServeAsked) (before after : Linked) (still : Rose before.faults after.faults → ⊥) (hears : HearsStop before.journal after.journal) where
+-- serving is done where neither the link nor its store failed, and it gave Stop, but for want of memory
+module _ (asked : ServeAsked) (before after : Linked) (still : Rose before.faults after.faults → ⊥) (store_still : Rose before.store_faults after.store_faults → ⊥) (hears : HearsStop before.journal after.journal) where
   of_store : (call : StoreCall) (fault : NextFault) → StoreFails asked call fault before after → serve_status (NotStored call fault) ≡ NoMemory
-  of_store call next.Failed fails = absurd (still (fails_rose asked call before after fails).1)
+  of_store call next.Failed fails = absurd (store_still (fails_rose asked call before after fails).1.0)
   of_store call next.NoMemory fails = refl
 
   of_ready : (end : ServeEnd) → LinkServes asked end before after → ServesPrepared asked end before after → (serve_status end ≡ NoMemory) ⊎ (serve_status end ≡ Done)
   unfolding LinkListens
   of_ready (NotStored call fault) serves on = absurd on.2
   of_ready NotBegun serves on = inl refl
-  of_ready NotOpened serves on = absurd (still (fault_rose asked before after NotOpened serves refl))
+  of_ready NotOpened serves on = absurd (still (fault_rose asked before after NotOpened serves refl).0)
   of_ready NotServed serves on = inl refl
   of_ready (LoopEnded ended.Stopped) serves on = inr refl
   of_ready (LoopEnded ended.TurnsSpent) serves on = absurd (not_spent asked before on.0 on.2.0 after hears on.1 on.2.1 on.2.2)
-  of_ready (LoopEnded ended.LinkFault) serves on = absurd (still (fault_rose asked before after (LoopEnded ended.LinkFault) serves refl))
-  of_ready (LoopEnded ended.StoreFault) serves on = absurd (still (store_rose asked before after (LoopEnded ended.StoreFault) serves refl).1)
+  of_ready (LoopEnded ended.LinkFault) serves on = absurd (still (fault_rose asked before after (LoopEnded ended.LinkFault) serves refl).0)
+  of_ready (LoopEnded ended.StoreFault) serves on = absurd (store_still (store_rose asked before after (LoopEnded ended.StoreFault) serves refl).1.0)
   of_ready (LoopEnded ended.NoMemory) serves on = inl refl
 
   pub served_done : (end : ServeEnd) → LinkServes asked end before after → (serve_status end ≡ NoMemory) ⊎ (serve_status end ≡ Done)

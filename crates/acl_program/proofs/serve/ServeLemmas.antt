@@ -82,7 +82,7 @@ Listens-no_memory asked before after opens stays =
 -- there was no memory for the directory, and nothing was done
 pub Listens-nothing : (asked : ServeAsked) (before : Outside) → Listens asked before NoMemory before
 unfolding OpenTells LinkCause
-Listens-nothing asked before = Listens-no_memory asked before before (record { tells = refl; cause = refl; plan = refl; lost = record { never_falls = omega arith }; refusals = record { never_falls = omega arith } }) refl
+Listens-nothing asked before = Listens-no_memory asked before before (record { tells = refl; cause = refl; stays = refl; plan = refl; lost = record { never_falls = omega arith }; refusals = record { never_falls = omega arith } }) refl
 
 -- the entries that are served are those of the tree
 pub Listens-over :
@@ -134,7 +134,7 @@ unfolding Links
 links_unready serving trouble.NoFile before after leaves = λ words is. may_open serving words before after is leaves
 links_unready serving (trouble.BadData line cause) before after leaves = λ words is. leaves
 links_unready serving (trouble.BadLine file line) before after leaves = λ words is. leaves
-links_unready serving (trouble.BadChanges line cause) before after leaves = λ words is. may_open serving words before after is leaves
+links_unready serving (trouble.BadChanges line cause) before after leaves = λ words is. (Serve serving, is, leaves)
 links_unready serving trouble.NoMemory before after leaves = λ words is. may_open serving words before after is leaves
 
 pub Performs-unready :

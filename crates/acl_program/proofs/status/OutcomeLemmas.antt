@@ -1,7 +1,6 @@
 -- Lemmas on which outcome may come with the words and the shelf, by the status that it has.
-use Rattle.std.proofs.Common.{◌≡◌, ℕ, Bool, true, false, List, length, Option, refl, ap, inl, inr, ◌⊎◌, if◌then◌else◌, nat_lt}
+use Rattle.std.proofs.Common.{◌≡◌, ℕ, Bool, true, false, List, length, Option, refl, inl, inr, ◌⊎◌, if◌then◌else◌, nat_lt}
 use Rattle.command_files.specs.script_text.declared.event.ScriptEvent.{ScriptEvent}
-use Rattle.command_files.specs.plain_values.Counts.{Rose}
 use Rattle.command_files.specs.wire_io.Files.{Files}
 use Rattle.command_files.specs.wire_io.Pieces.{pieces}
 use Rattle.session_hub.specs.serve.Loops.{buffer_length}
@@ -12,16 +11,16 @@ use Rattle.command_files.specs.declared.loading.SecondFile.{SecondFile}
 use Rattle.command_files.specs.ldif_load.load.DataFile.{FileCause}
 use Rattle.acl_program.specs.declared.status.Status.{Status}
 use Rattle.acl_program.specs.declared.status.Status.TheVariants.{Done, Usage, BadData, ShelfFault, SinkFault, LinkFault, TurnsSpent, NoMemory, BadScript, NotProved, StoreFault}
-use Rattle.acl_program.specs.program.Outside.{Linked, Outside}
+use Rattle.acl_program.specs.program.Outside.{Linked, Outside, NoneFailed, LinkFailed, StoreFailed}
 use Rattle.acl_program.specs.Outcomes.{Outcome, NoCommand, NoFile, BadDataLine, BadChangesLine, BadLine, FalseLine, Checked, Dumped, Replayed, Served, Answered, Explained, Sampled, OutOfMemory, status_of}
-use Rattle.acl_program.specs.program.Causes.{IsNoCommand, AsksData, AsksServing, AsksServe, ExplainsData, AsksStoring, MayOpenStore, LacksChanges, LacksData, LacksSecond, RefusesChanges, RefusesData, RefusesSecond, RefutesCertificate, Comes, Links}
+use Rattle.acl_program.specs.program.Causes.{IsNoCommand, AsksData, AsksServing, AsksServe, ExplainsData, AsksStoring, MayOpenStore, OpensFor, LacksChanges, LacksData, LacksSecond, RefusesChanges, RefusesData, RefusesSecond, RefutesCertificate, Comes, Links}
 use Rattle.acl_program.specs.Sampling.{RefusesSample}
 use Rattle.acl_program.specs.program.Running.{Puts, IsCause, EndsAtFaults}
 use Rattle.acl_program.specs.program.Playing.{Ends}
 use Rattle.acl_program.specs.serve.Storing.{ServeAsked}
 use Rattle.acl_program.specs.serve.Serving.{ServeEnd}
 use Rattle.acl_program.proofs.program.ReadyLemmas.{content_fails}
-use Rattle.acl_program.proofs.serve.StoreLemmas.{opens_count}
+use Rattle.acl_program.proofs.serve.StoreLemmas.{none_same, opens_count}
 use Rattle.acl_program.proofs.serve.CountLemmas.{serve_not, fault_rose, store_rose, serve_count_stays}
 
 -- a replay's status is one of two
@@ -146,9 +145,9 @@ serving_asked : (words : List (List ℕ)) (files : Option Files) (asked : ServeA
 unfolding AsksServing
 serving_asked words files asked end asks = (asked.serving, asks.asked)
 
--- a fault of the link comes of serving alone, and raised its count
+-- a fault of the link comes of serving alone, and raised its count alone
 link_cause : (words : List (List ℕ)) (files : Option Files) (before after : ℕ) (old new : Linked) (outcome : Outcome)
-    → LinkFault ≡ status_of outcome → Comes words files before after outcome → Links words outcome old new → AsksServing words × Rose old.faults new.faults
+    → LinkFault ≡ status_of outcome → Comes words files before after outcome → Links words outcome old new → AsksServing words × LinkFailed old new
 unfolding status_of Comes Links
 link_cause words files before after old new NoCommand is comes links = absurd (cc)
 link_cause words files before after old new NoFile is comes links = absurd (cc)
@@ -165,9 +164,9 @@ link_cause words files before after old new (Explained line cause content) is co
 link_cause words files before after old new (Sampled text) is comes links = absurd (cc)
 link_cause words files before after old new OutOfMemory is comes links = absurd (cc)
 
--- a fault of the store comes of serving with a file of changes alone, and raised the link's count too
+-- a fault of the store comes of serving with a file of changes alone, and raised the store's count alone
 store_cause : (words : List (List ℕ)) (files : Option Files) (before after : ℕ) (old new : Linked) (outcome : Outcome)
-    → StoreFault ≡ status_of outcome → Comes words files before after outcome → Links words outcome old new → AsksStoring words × Rose old.faults new.faults
+    → StoreFault ≡ status_of outcome → Comes words files before after outcome → Links words outcome old new → AsksStoring words × StoreFailed old new
 unfolding status_of Comes Links AsksStoring
 store_cause words files before after old new NoCommand is comes links = absurd (cc)
 store_cause words files before after old new NoFile is comes links = absurd (cc)
@@ -184,15 +183,24 @@ store_cause words files before after old new (Explained line cause content) is c
 store_cause words files before after old new (Sampled text) is comes links = absurd (cc)
 store_cause words files before after old new OutOfMemory is comes links = absurd (cc)
 
--- a store is opened of serving alone, and leaves the link's count as it is
+-- a store is opened of serving alone, and leaves the link's counts as they are
 unopened : (words : List (List ℕ)) (old new : Linked) → (AsksServing words → ⊥) → MayOpenStore words old new → new ≡ old
 unfolding AsksServing
 unopened words old new other (inl same) = same
 unopened words old new other (inr opens) = absurd (other (opens.0, opens.1))
 
-opened_count : (words : List (List ℕ)) (old new : Linked) → MayOpenStore words old new → new.faults ≡ old.faults
-opened_count words old new (inl same) = ap (λ link. link.faults) same
+unopened_for : (words : List (List ℕ)) (asked : CommandView) (old new : Linked) → (AsksServing words → ⊥) → IsCommand words asked → OpensFor asked old new → new ≡ old
+unfolding AsksServing
+unopened_for words (Serve serving) old new other is opens = absurd (other (serving, is))
+unopened_for words asked old new other is opens = opens
+
+opened_count : (words : List (List ℕ)) (old new : Linked) → MayOpenStore words old new → NoneFailed old new
+opened_count words old new (inl same) = none_same old new same
 opened_count words old new (inr opens) = opens_count opens.0.changes old new opens.2
+
+opened_for_count : (asked : CommandView) (old new : Linked) → OpensFor asked old new → NoneFailed old new
+opened_for_count (Serve serving) old new opens = opens_count serving.changes old new opens
+opened_for_count asked old new opens = none_same old new opens
 
 -- words that ask for nothing to be served leave the link as it is
 pub link_stays : (words : List (List ℕ)) (files : Option Files) (before after : ℕ) (old new : Linked) (outcome : Outcome)
@@ -201,7 +209,7 @@ unfolding Comes Links
 link_stays words files before after old new NoCommand other comes links = links
 link_stays words files before after old new NoFile other comes links = unopened words old new other links
 link_stays words files before after old new (BadDataLine line cause) other comes links = links
-link_stays words files before after old new (BadChangesLine line cause) other comes links = unopened words old new other links
+link_stays words files before after old new (BadChangesLine line cause) other comes links = unopened_for words links.0 old new other links.1 links.2
 link_stays words files before after old new (BadLine file line) other comes links = links
 link_stays words files before after old new (FalseLine line) other comes links = links
 link_stays words files before after old new (Checked left) other comes links = links
@@ -251,23 +259,23 @@ count_stays words files before after (Explained line cause content) status is ot
 count_stays words files before after (Sampled text) status is other comes = comes.1
 count_stays words files before after OutOfMemory status is other comes = comes
 
--- the link's count is as it was where its fault isn't answered, and memory was there
+-- the link's counts are as they were where no fault of it is answered, and memory was there
 link_count_stays : (words : List (List ℕ)) (outcome : Outcome) (old new : Linked) (status : Status)
-    → status ≡ status_of outcome → (status ≡ LinkFault → ⊥) → (status ≡ StoreFault → ⊥) → (status ≡ NoMemory → ⊥) → Links words outcome old new → new.faults ≡ old.faults
+    → status ≡ status_of outcome → (status ≡ LinkFault → ⊥) → (status ≡ StoreFault → ⊥) → (status ≡ NoMemory → ⊥) → Links words outcome old new → NoneFailed old new
 unfolding status_of Links
-link_count_stays words NoCommand old new status is not_fault not_store not_memory links = ap (λ link. link.faults) links
+link_count_stays words NoCommand old new status is not_fault not_store not_memory links = none_same old new links
 link_count_stays words NoFile old new status is not_fault not_store not_memory links = opened_count words old new links
-link_count_stays words (BadDataLine line cause) old new status is not_fault not_store not_memory links = ap (λ link. link.faults) links
-link_count_stays words (BadChangesLine line cause) old new status is not_fault not_store not_memory links = opened_count words old new links
-link_count_stays words (BadLine file line) old new status is not_fault not_store not_memory links = ap (λ link. link.faults) links
-link_count_stays words (FalseLine line) old new status is not_fault not_store not_memory links = ap (λ link. link.faults) links
-link_count_stays words (Checked left) old new status is not_fault not_store not_memory links = ap (λ link. link.faults) links
-link_count_stays words (Dumped left) old new status is not_fault not_store not_memory links = ap (λ link. link.faults) links
-link_count_stays words (Replayed events turns dump entries) old new status is not_fault not_store not_memory links = ap (λ link. link.faults) links
+link_count_stays words (BadDataLine line cause) old new status is not_fault not_store not_memory links = none_same old new links
+link_count_stays words (BadChangesLine line cause) old new status is not_fault not_store not_memory links = opened_for_count links.0 old new links.2
+link_count_stays words (BadLine file line) old new status is not_fault not_store not_memory links = none_same old new links
+link_count_stays words (FalseLine line) old new status is not_fault not_store not_memory links = none_same old new links
+link_count_stays words (Checked left) old new status is not_fault not_store not_memory links = none_same old new links
+link_count_stays words (Dumped left) old new status is not_fault not_store not_memory links = none_same old new links
+link_count_stays words (Replayed events turns dump entries) old new status is not_fault not_store not_memory links = none_same old new links
 link_count_stays words (Served asked end) old new status is not_fault not_store not_memory links = serve_count_stays asked old new end links status is not_fault not_store not_memory
-link_count_stays words (Answered text) old new status is not_fault not_store not_memory links = ap (λ link. link.faults) links
-link_count_stays words (Explained line cause content) old new status is not_fault not_store not_memory links = ap (λ link. link.faults) links
-link_count_stays words (Sampled text) old new status is not_fault not_store not_memory links = ap (λ link. link.faults) links
+link_count_stays words (Answered text) old new status is not_fault not_store not_memory links = none_same old new links
+link_count_stays words (Explained line cause content) old new status is not_fault not_store not_memory links = none_same old new links
+link_count_stays words (Sampled text) old new status is not_fault not_store not_memory links = none_same old new links
 link_count_stays words OutOfMemory old new status is not_fault not_store not_memory links = opened_count words old new links
 
 module _ (words : List (List ℕ)) (before after : Outside) (outcome : Outcome)
@@ -276,7 +284,7 @@ module _ (words : List (List ℕ)) (before after : Outside) (outcome : Outcome)
   shelf_stays : (status : Status) → status ≡ status_of outcome → (status ≡ ShelfFault → ⊥) → after.shelf.faults ≡ before.shelf.faults
   shelf_stays status is other = count_stays words before.shelf.files before.shelf.faults after.shelf.faults outcome status is other comes
 
-  linked_stays : (status : Status) → status ≡ status_of outcome → (status ≡ LinkFault → ⊥) → (status ≡ StoreFault → ⊥) → (status ≡ NoMemory → ⊥) → after.link.faults ≡ before.link.faults
+  linked_stays : (status : Status) → status ≡ status_of outcome → (status ≡ LinkFault → ⊥) → (status ≡ StoreFault → ⊥) → (status ≡ NoMemory → ⊥) → NoneFailed before.link after.link
   linked_stays status is not_fault not_store not_memory = link_count_stays words outcome before.link after.link status is not_fault not_store not_memory links
 
   -- what the counts say of each status

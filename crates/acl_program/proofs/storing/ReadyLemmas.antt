@@ -11,7 +11,7 @@ use Rattle.command_files.specs.declared.loading.Trouble.{Trouble}
 use Rattle.command_files.specs.declared.loading.Trouble.TheVariants as trouble
 use Rattle.command_files.specs.loading.Accepting.{HoldsIn, IsLoadedFrom}
 use Rattle.command_files.specs.loading.Changing.{head_of, left_of, unchanged}
-use Rattle.command_files.specs.loading.Loading.{LoadsChanges, LoadsFile, LoadsTree}
+use Rattle.command_files.specs.loading.Loading.{LoadsChanges, LoadsData, LoadsFile, LoadsTree}
 use Rattle.command_files.proofs.Theorems.{LoadsTree-read, LoadsTree-unread, changes_loaded, changes_stay, file_loaded, file_stays}
 use Rattle.acl_program.specs.declared.storing.Unready.{Unready}
 use Rattle.acl_program.specs.declared.storing.Unready.TheVariants as unready
@@ -19,13 +19,14 @@ use Rattle.acl_program.specs.program.Outside.{Linked}
 use Rattle.acl_program.specs.serve.Listening.{LeavesLink, Prepares, Readies}
 use Rattle.acl_program.specs.serve.Storing.{OpenStore, CutStore, StoreHead, OpensStore, CutsStore, Stores, Heads, IsCut, IsPrepared, serve_asked, whole_of}
 
--- a file that wasn't taken leaves the link as it is
-leaves_same : (changes : Option (List ℕ)) (why : Trouble) (link : Linked) → LeavesLink changes why link link
-leaves_same changes trouble.NoFile link = inl refl
-leaves_same changes (trouble.BadData line cause) link = refl
-leaves_same changes (trouble.BadLine file line) link = refl
-leaves_same changes (trouble.BadChanges line cause) link = inl refl
-leaves_same changes trouble.NoMemory link = inl refl
+-- a data file that wasn't loaded leaves the link as it is
+leaves_same : (changes : Option (List ℕ)) (why : Trouble) (files : Option Files) (name : List ℕ) (count last : ℕ) (link : Linked) → LoadsFile files name count last (Err why) → LeavesLink changes why link link
+unfolding LoadsFile LoadsData
+leaves_same changes trouble.NoFile files name count last link loads = inl refl
+leaves_same changes (trouble.BadData line cause) files name count last link loads = refl
+leaves_same changes (trouble.BadLine file line) files name count last link loads = refl
+leaves_same changes (trouble.BadChanges line cause) files name count last link loads = absurd loads
+leaves_same changes trouble.NoMemory files name count last link loads = inl refl
 
 -- the data file wasn't loaded
 pub Readies-unread :
@@ -33,7 +34,7 @@ pub Readies-unread :
     → LoadsFile files serving.data_file count last (Err why) → Readies serving files count last link (Err (unready.Files why)) link
 unfolding Readies
 Readies-unread serving files count last link why loads =
-    (LoadsTree-unread files serving.data_file serving.changes count last why loads, leaves_same serving.changes why link)
+    (LoadsTree-unread files serving.data_file serving.changes count last why loads, leaves_same serving.changes why files serving.data_file count last link loads)
 
 -- it was loaded, and there are no changes
 pub Readies-alone :
@@ -89,7 +90,7 @@ module _ (serving : ServingView) (files : Option Files) (count middle : ℕ) (fi
     leaves_opened trouble.NoFile entries content kept last refused = inr opens_own
     leaves_opened (trouble.BadData line cause) entries content kept last refused = absurd refused
     leaves_opened (trouble.BadLine kind line) entries content kept last refused = absurd refused
-    leaves_opened (trouble.BadChanges line cause) entries content kept last refused = inr opens_own
+    leaves_opened (trouble.BadChanges line cause) entries content kept last refused = opens_own
     leaves_opened trouble.NoMemory entries content kept last refused = inr opens_own
 
     pub Readies-refused : (last : ℕ) (lent : List ℕ) (why : Trouble) → lent ≡ file.content.items → LoadsChanges (entries_of file.tree) lent files name middle last (Err why) → Readies serving files count last before (Err (unready.Files why)) opened

@@ -238,13 +238,18 @@ abbrev pub MayOpenStore : List (List ℕ) → Linked → Linked → Type 0
 MayOpenStore words before after =
     (after ≡ before) ⊎ ((serving : ServingView) × IsCommand words (Serve serving) × OpensStore serving.changes (Ok tt) before after)
 
+-- the link as a command leaves it that refuses its file of changes: serving opened the store first, and nothing else was done
+abbrev pub OpensFor : CommandView → Linked → Linked → Type 0
+OpensFor (Serve serving) before after = OpensStore serving.changes (Ok tt) before after
+OpensFor asked before after = after ≡ before
+
 -- what each outcome says of the link: all leave it as it was but serving, which opens the store before it reads the file of
 -- changes
 unfoldable pub Links : List (List ℕ) → Outcome → Linked → Linked → Type 0
 Links words NoCommand before after = after ≡ before
 Links words NoFile before after = MayOpenStore words before after
 Links words (BadDataLine line cause) before after = after ≡ before
-Links words (BadChangesLine line cause) before after = MayOpenStore words before after
+Links words (BadChangesLine line cause) before after = (asked : CommandView) × IsCommand words asked × OpensFor asked before after
 Links words (BadLine file line) before after = after ≡ before
 Links words (FalseLine line) before after = after ≡ before
 Links words (Checked left) before after = after ≡ before
@@ -261,7 +266,7 @@ unfoldable pub HearsStop : Option (List Item) → Option (List Item) → Type 0
 HearsStop before after = (begun : List Item) × (added : List Item) × (before ≡ Some begun) × (after ≡ Some (begun ++ added)) × (was_stopped added ≡ true)
 
 -- the outcome that is due where the words are a command whose files the shelf tells, and which are accepted; serving is
--- done where the link didn't fail and gave Stop, and a sample reads no file
+-- done where neither the link nor its store failed, and it gave Stop, and a sample reads no file
 unfoldable pub IsDue : List (List ℕ) → Option Files → Linked → Linked → Outcome → Type 0
 IsDue words files old new NoCommand = ⊥
 IsDue words files old new NoFile = ⊥
@@ -276,7 +281,8 @@ IsDue words files old new (Replayed events turns dump entries) =
     × IsTold files data_file (IsGoodData entries) × IsTold files script (IsGoodScript events)
 IsDue words files old new (Served asks end) =
     (end ≡ LoopEnded ended.Stopped) × IsCommand words (Serve asks.serving)
-    × IsLoadedFrom (IsTold files) asks.serving.data_file asks.serving.changes asks.content asks.left × (Rose old.faults new.faults → ⊥) × HearsStop old.journal new.journal
+    × IsLoadedFrom (IsTold files) asks.serving.data_file asks.serving.changes asks.content asks.left
+    × (Rose old.faults new.faults → ⊥) × (Rose old.store_faults new.store_faults → ⊥) × HearsStop old.journal new.journal
 IsDue words files old new (Answered text) = AsksAnswer words (IsTold files) text
 IsDue words files old new (Explained line cause content) = ⊥
 IsDue words files old new (Sampled text) = Samples words text

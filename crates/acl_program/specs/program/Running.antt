@@ -4,7 +4,7 @@ use Rattle.command_files.specs.plain_values.Counts.{Rose}
 use Rattle.command_files.specs.wire_io.Putting.{appended}
 use Rattle.acl_program.specs.declared.status.Status.{Status}
 use Rattle.acl_program.specs.declared.status.Status.TheVariants.{Done, Usage, BadData, ShelfFault, SinkFault, LinkFault, TurnsSpent, NoMemory, BadScript, NotProved, StoreFault}
-use Rattle.acl_program.specs.program.Outside.{Outside}
+use Rattle.acl_program.specs.program.Outside.{Outside, NoneFailed, LinkFailed, StoreFailed}
 use Rattle.acl_program.specs.Outcomes.{Outcome, text_of, status_of}
 use Rattle.command_files.specs.declared.changing.ChangesCause.{ChangesCause}
 use Rattle.command_files.specs.declared.loading.SecondFile.{SecondFile}
@@ -46,27 +46,27 @@ IsCause words before after NotProved = (line : ℕ) × RefutesCertificate words 
 IsCause words before after Done = Unit {0}
 IsCause words before after Usage = Unit {0}
 IsCause words before after SinkFault = Unit {0}
-IsCause words before after LinkFault = AsksServing words × Rose before.link.faults after.link.faults
+IsCause words before after LinkFault = AsksServing words × LinkFailed before.link after.link
 IsCause words before after TurnsSpent = Unit {0}
 IsCause words before after NoMemory = Unit {0}
-IsCause words before after StoreFault = AsksStoring words × Rose before.link.faults after.link.faults
+IsCause words before after StoreFault = AsksStoring words × StoreFailed before.link after.link
 
 -- the shelf's count and the sink's are as they were
 abbrev pub NoFaults : Outside → Outside → Type 0
 NoFaults before after = (after.shelf.faults ≡ before.shelf.faults) × (after.out.faults ≡ before.out.faults)
 
 -- what the counts of faults say of each status: a fault ends the program, so each count is as it was but where its fault is
--- answered; the shelf's or the link's may also have risen where the sink refused the line that says so, or wanted memory
--- for it
+-- answered; the shelf's, the link's or its store's may also have risen where the sink refused the line that says so, or
+-- wanted memory for it
 unfoldable pub EndsAtFaults : Outside → Outside → Status → Type 0
 EndsAtFaults before after SinkFault = Rose before.out.faults after.out.faults
 EndsAtFaults before after NoMemory = after.out.faults ≡ before.out.faults
-EndsAtFaults before after ShelfFault = (after.out.faults ≡ before.out.faults) × (after.link.faults ≡ before.link.faults)
-EndsAtFaults before after LinkFault = NoFaults before after × Rose before.link.faults after.link.faults
-EndsAtFaults before after StoreFault = NoFaults before after × Rose before.link.faults after.link.faults
-EndsAtFaults before after Done = NoFaults before after × (after.link.faults ≡ before.link.faults)
-EndsAtFaults before after Usage = NoFaults before after × (after.link.faults ≡ before.link.faults)
-EndsAtFaults before after BadData = NoFaults before after × (after.link.faults ≡ before.link.faults)
-EndsAtFaults before after TurnsSpent = NoFaults before after × (after.link.faults ≡ before.link.faults)
-EndsAtFaults before after BadScript = NoFaults before after × (after.link.faults ≡ before.link.faults)
-EndsAtFaults before after NotProved = NoFaults before after × (after.link.faults ≡ before.link.faults)
+EndsAtFaults before after ShelfFault = (after.out.faults ≡ before.out.faults) × NoneFailed before.link after.link
+EndsAtFaults before after LinkFault = NoFaults before after × LinkFailed before.link after.link
+EndsAtFaults before after StoreFault = NoFaults before after × StoreFailed before.link after.link
+EndsAtFaults before after Done = NoFaults before after × NoneFailed before.link after.link
+EndsAtFaults before after Usage = NoFaults before after × NoneFailed before.link after.link
+EndsAtFaults before after BadData = NoFaults before after × NoneFailed before.link after.link
+EndsAtFaults before after TurnsSpent = NoFaults before after × NoneFailed before.link after.link
+EndsAtFaults before after BadScript = NoFaults before after × NoneFailed before.link after.link
+EndsAtFaults before after NotProved = NoFaults before after × NoneFailed before.link after.link

@@ -82,7 +82,7 @@ abbrev pub LeavesLink : Option (List ℕ) → Trouble → Linked → Linked → 
 LeavesLink changes trouble.NoFile before after = OpensAtMost changes before after
 LeavesLink changes (trouble.BadData line cause) before after = after ≡ before
 LeavesLink changes (trouble.BadLine file line) before after = after ≡ before
-LeavesLink changes (trouble.BadChanges line cause) before after = OpensAtMost changes before after
+LeavesLink changes (trouble.BadChanges line cause) before after = OpensStore changes (Ok tt) before after
 LeavesLink changes trouble.NoMemory before after = OpensAtMost changes before after
 
 -- what is to be served is ready, or why not: a file wasn't taken, or a call of the store failed

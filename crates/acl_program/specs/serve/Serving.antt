@@ -88,7 +88,7 @@ changes_read end changes = changes
 
 -- the link was asked to open at the address, which its journal notes, and gave this answer
 abbrev pub Opens : ServingView → Result (Unit {0}) NextFault → Linked → Linked → Type 0
-Opens serving answer before after = Gives (λ old given new. OpenTells old serving.address serving.sessions given new) answer before after
+Opens serving answer before after = Gives (λ old given new. OpenTells old serving.address serving.sessions given new) (λ link. link.faults) (λ link. link.store_faults) answer before after
 
 -- the terms that the words ask for: a limit on searches, and that changes are stored where a file of changes is named
 abbrev pub terms_of : ServingView → Terms
@@ -100,7 +100,7 @@ pub record ServesUntil (asked : ServeAsked) (how : Ended) (before after : Linked
   pub left : List EntryInformation
   pub served : Serves (terms_of asked.serving) asked.left.entries left asked.serving.turns before.journal how after.journal
   pub plays : PlaysOut asked.serving.turns before.journal before.plan how after.journal after.plan
-  pub cause : EndsFor (is_some asked.serving.changes) before.plan before.faults after.faults how
+  pub cause : EndsFor (is_some asked.serving.changes) before.plan before.faults after.faults before.store_faults after.store_faults how
   pub lost : NeverFalls before.lost after.lost
   pub memory : Starves (terms_of asked.serving) asked.left.entries left before.journal before.refusals how after.journal after.refusals
   pub refusals : NeverFalls before.refusals after.refusals

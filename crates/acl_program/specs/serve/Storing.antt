@@ -28,26 +28,32 @@ pub data StoreCall : Type 0 where
   CutStore : StoreCall
   StoreHead : StoreCall
 
--- the link was asked for something, which its journal notes so, and gave this answer
-pub record Gives (Tells : Option (List Item) → Result (Unit {0}) NextFault → Option (List Item) → Type 0) (answer : Result (Unit {0}) NextFault) (before after : Linked) : Type 0 where
+-- the link was asked for something, which its journal notes so, and gave this answer; a fault raises this count, and the
+-- other one stays
+pub record Gives (Tells : Option (List Item) → Result (Unit {0}) NextFault → Option (List Item) → Type 0) (count other : Linked → ℕ) (answer : Result (Unit {0}) NextFault) (before after : Linked) : Type 0 where
   pub tells : Tells before.journal answer after.journal
-  pub cause : LinkCause before.plan before.faults after.faults answer
+  pub cause : LinkCause before.plan (count before) (count after) answer
+  pub stays : other after ≡ other before
   pub plan : after.plan ≡ before.plan
   pub lost : NeverFalls before.lost after.lost
   pub refusals : NeverFalls before.refusals after.refusals
 
--- it was asked to open the store of the file of changes, where one is named
+-- it was asked for something of its store
+abbrev pub GivesOfStore : (Option (List Item) → Result (Unit {0}) NextFault → Option (List Item) → Type 0) → Result (Unit {0}) NextFault → Linked → Linked → Type 0
+GivesOfStore Tells answer before after = Gives Tells (λ link. link.store_faults) (λ link. link.faults) answer before after
+
+-- to open the store of the file of changes, where one is named
 abbrev pub OpensStore : Option (List ℕ) → Result (Unit {0}) NextFault → Linked → Linked → Type 0
 OpensStore None answer before after = ⊥
-OpensStore (Some name) answer before after = Gives (λ old given new. StoreOpenTells old name given new) answer before after
+OpensStore (Some name) answer before after = GivesOfStore (λ old given new. StoreOpenTells old name given new) answer before after
 
 -- to cut it to so many octets
 abbrev pub CutsStore : ℕ → Result (Unit {0}) NextFault → Linked → Linked → Type 0
-CutsStore length answer before after = Gives (λ old given new. NoteTells old (item.StoreCut length) given new) answer before after
+CutsStore length answer before after = GivesOfStore (λ old given new. NoteTells old (item.StoreCut length) given new) answer before after
 
 -- and to store octets
 abbrev pub Stores : List ℕ → Result (Unit {0}) NextFault → Linked → Linked → Type 0
-Stores octets answer before after = Gives (λ old given new. NoteTells old (item.Stored octets) given new) answer before after
+Stores octets answer before after = GivesOfStore (λ old given new. NoteTells old (item.Stored octets) given new) answer before after
 
 -- how many octets of a file of changes are whole; none, where there is no file
 abbrev pub whole_of : Option Applied → ℕ

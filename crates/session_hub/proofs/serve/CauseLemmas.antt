@@ -1,4 +1,4 @@
--- Why a loop ended, by the link's count of faults.
+-- Why a loop ended, by the link's counts of faults.
 use Rattle.std.specs.Prelude.{IfSome}
 use Rattle.std.proofs.Common.{◌≡◌, ℕ, Bool, true, false, Option, Some, None, Result, Ok, Err, sym, ◌∙◌, subst, arith}
 use Rattle.dir_tree.specs.plain_values.Counts.{Rose, NeverFalls}
@@ -23,24 +23,27 @@ never_falls : (before after : ℕ) → after ≡ before → NeverFalls before af
 never_falls before after same = record { never_falls = omega arith }
 
 -- the cause of each end, where a connection was cut or not
-pub ends_failed : (keeps : Bool) (plan : Option Plan) (before after : ℕ) (was_cut : Bool) → LinkCause {T = Answer} plan before after (Err fault.Failed) → EndsFor keeps plan before after (ends_with was_cut ended.LinkFault)
+pub ends_failed : (keeps : Bool) (plan : Option Plan) (before after store_before store_after : ℕ) (was_cut : Bool) → LinkCause {T = Answer} plan before after (Err fault.Failed) → store_after ≡ store_before →
+    EndsFor keeps plan before after store_before store_after (ends_with was_cut ended.LinkFault)
 unfolding EndsFor LinkCause
-ends_failed keeps plan before after true cause = record { never_falls = cause.0.never_falls }
-ends_failed keeps plan before after false cause = (cause.0, may_fail plan cause.1)
+ends_failed keeps plan before after store_before store_after true cause store_kept = (record { never_falls = cause.0.never_falls }, store_kept)
+ends_failed keeps plan before after store_before store_after false cause store_kept = (cause.0, store_kept, may_fail plan cause.1)
 
-pub ends_stopped : (keeps : Bool) (plan : Option Plan) (before after : ℕ) (was_cut : Bool) → after ≡ before → EndsFor keeps plan before after (ends_with was_cut ended.Stopped)
+pub ends_stopped : (keeps : Bool) (plan : Option Plan) (before after store_before store_after : ℕ) (was_cut : Bool) → after ≡ before → store_after ≡ store_before →
+    EndsFor keeps plan before after store_before store_after (ends_with was_cut ended.Stopped)
 unfolding EndsFor
-ends_stopped keeps plan before after true kept = never_falls before after kept
-ends_stopped keeps plan before after false kept = kept
+ends_stopped keeps plan before after store_before store_after true kept store_kept = (never_falls _ _ kept, store_kept)
+ends_stopped keeps plan before after store_before store_after false kept store_kept = (kept, store_kept)
 
-pub ends_spent : (keeps : Bool) (plan : Option Plan) (before after : ℕ) (was_cut : Bool) → after ≡ before → EndsFor keeps plan before after (ends_with was_cut ended.TurnsSpent)
+pub ends_spent : (keeps : Bool) (plan : Option Plan) (before after store_before store_after : ℕ) (was_cut : Bool) → after ≡ before → store_after ≡ store_before →
+    EndsFor keeps plan before after store_before store_after (ends_with was_cut ended.TurnsSpent)
 unfolding EndsFor
-ends_spent keeps plan before after true kept = never_falls before after kept
-ends_spent keeps plan before after false kept = kept
+ends_spent keeps plan before after store_before store_after true kept store_kept = (never_falls _ _ kept, store_kept)
+ends_spent keeps plan before after store_before store_after false kept store_kept = (kept, store_kept)
 
-pub ends_starved : (keeps : Bool) (plan : Option Plan) (before after : ℕ) → after ≡ before → EndsFor keeps plan before after ended.NoMemory
+pub ends_starved : (keeps : Bool) (plan : Option Plan) (before after store_before store_after : ℕ) → after ≡ before → store_after ≡ store_before → EndsFor keeps plan before after store_before store_after ended.NoMemory
 unfolding EndsFor
-ends_starved keeps plan before after kept = never_falls before after kept
+ends_starved keeps plan before after store_before store_after kept store_kept = (never_falls _ _ kept, store_kept)
 
 -- when each answer of a call that syncs comes, where changes are kept
 pub cause_of_sync : (keeps : Bool) (plan : Option Plan) (before after : ℕ) (result : Result (Unit {0}) NextFault) → keeps ≡ true → LinkCause plan before after result → StoreCause (keeps ≡ true) plan before after result
@@ -50,14 +53,18 @@ cause_of_sync keeps plan before after (Err fault.Failed) kept cause = (cause.0, 
 cause_of_sync keeps plan before after (Err fault.NoMemory) kept cause = cause
 
 -- the store failed
-pub ends_unstored : (keeps : Bool) (plan : Option Plan) (before after : ℕ) → StoreCause {X = Unit {0}} (keeps ≡ true) plan before after (Err fault.Failed) → EndsFor keeps plan before after ended.StoreFault
+pub ends_unstored : (keeps : Bool) (plan : Option Plan) (before after store_before store_after : ℕ) → StoreCause {X = Unit {0}} (keeps ≡ true) plan store_before store_after (Err fault.Failed) → after ≡ before →
+    EndsFor keeps plan before after store_before store_after ended.StoreFault
 unfolding EndsFor
-ends_unstored keeps plan before after cause = (cause.0, may_fail plan cause.1, cause.2)
+ends_unstored keeps plan before after store_before store_after cause kept = (cause.0, kept, may_fail plan cause.1, cause.2)
 
 -- the cause of an end is the same where the counts were as they are before the call
-pub ends_synced : (keeps : Bool) (result : Option Ended) (plan now : Option Plan) (first before after : ℕ) → now ≡ plan → before ≡ first → IfSome result (EndsFor keeps now before after) → IfSome result (EndsFor keeps plan first after)
-ends_synced keeps result plan now first before after planned kept cause =
-    subst (λ count. IfSome result (EndsFor keeps plan count after)) kept (subst (λ p. IfSome result (EndsFor keeps p before after)) planned cause)
+pub ends_synced : (keeps : Bool) (result : Option Ended) (plan now : Option Plan) (first before after store_first store_before store_after : ℕ) → now ≡ plan → before ≡ first → store_before ≡ store_first →
+    IfSome result (EndsFor keeps now before after store_before store_after) → IfSome result (EndsFor keeps plan first after store_first store_after)
+ends_synced keeps result plan now first before after store_first store_before store_after planned kept store_kept cause =
+    subst (λ count. IfSome result (EndsFor keeps plan count after store_first store_after)) kept
+    (subst (λ count. IfSome result (EndsFor keeps plan before after count store_after)) store_kept
+    (subst (λ p. IfSome result (EndsFor keeps p before after store_before store_after)) planned cause))
 
 -- what a plan with no failing calls says of a loop says the same of the plan that it came to
 MayFail-came : (plan now : Option Plan) → failing_of now ≡ failing_of plan → MayFail now → MayFail plan
@@ -66,18 +73,21 @@ MayFail-came (Some plan) None same fails = cc
 MayFail-came (Some plan) (Some now) same fails = λ none. fails (let is : now.failing ≡ plan.failing = cc in is ∙ none)
 
 -- the cause of a loop's end is that of its last turn
-pub EndsFor-came : (keeps : Bool) (plan now : Option Plan) (first before after : ℕ) (end : Ended) → failing_of now ≡ failing_of plan → before ≡ first → EndsFor keeps now before after end → EndsFor keeps plan first after end
+pub EndsFor-came : (keeps : Bool) (plan now : Option Plan) (first before after store_first store_before store_after : ℕ) (end : Ended) → failing_of now ≡ failing_of plan → before ≡ first → store_before ≡ store_first →
+    EndsFor keeps now before after store_before store_after end → EndsFor keeps plan first after store_first store_after end
 unfolding EndsFor
-EndsFor-came keeps plan now first before after ended.LinkFault same kept cause = (subst (λ count. Rose count after) kept cause.0, MayFail-came plan now same cause.1)
-EndsFor-came keeps plan now first before after ended.StoreFault same kept cause = (subst (λ count. Rose count after) kept cause.0, MayFail-came plan now same cause.1, cause.2)
-EndsFor-came keeps plan now first before after ended.Stopped same kept cause = cause ∙ kept
-EndsFor-came keeps plan now first before after ended.TurnsSpent same kept cause = cause ∙ kept
-EndsFor-came keeps plan now first before after ended.NoMemory same kept cause = subst (λ count. NeverFalls count after) kept cause
+EndsFor-came keeps plan now first before after store_first store_before store_after ended.LinkFault same kept store_kept cause = (subst (λ count. Rose count after) kept cause.0, cause.1 ∙ store_kept, MayFail-came plan now same cause.2)
+EndsFor-came keeps plan now first before after store_first store_before store_after ended.StoreFault same kept store_kept cause = (subst (λ count. Rose count store_after) store_kept cause.0, cause.1 ∙ kept, MayFail-came plan now same cause.2, cause.3)
+EndsFor-came keeps plan now first before after store_first store_before store_after ended.Stopped same kept store_kept cause = (cause.0 ∙ kept, cause.1 ∙ store_kept)
+EndsFor-came keeps plan now first before after store_first store_before store_after ended.TurnsSpent same kept store_kept cause = (cause.0 ∙ kept, cause.1 ∙ store_kept)
+EndsFor-came keeps plan now first before after store_first store_before store_after ended.NoMemory same kept store_kept cause = (subst (λ count. NeverFalls count after) kept cause.0, cause.1 ∙ store_kept)
 
 -- an end given by another name
-pub ends_as : (keeps : Bool) (plan : Option Plan) (before after : ℕ) (end other : Ended) → end ≡ other → EndsFor keeps plan before after other → EndsFor keeps plan before after end
-ends_as keeps plan before after end other is cause = subst (EndsFor keeps plan before after) (sym is) cause
+pub ends_as : (keeps : Bool) (plan : Option Plan) (before after store_before store_after : ℕ) (end other : Ended) → end ≡ other → EndsFor keeps plan before after store_before store_after other →
+    EndsFor keeps plan before after store_before store_after end
+ends_as keeps plan before after store_before store_after end other is cause = subst (EndsFor keeps plan before after store_before store_after) (sym is) cause
 
 -- changes that are kept or not, told by another name
-pub ends_at : (keeps same : Bool) (plan : Option Plan) (before after : ℕ) (end : Ended) → keeps ≡ same → EndsFor keeps plan before after end → EndsFor same plan before after end
-ends_at keeps same plan before after end is cause = subst (λ b. EndsFor b plan before after end) is cause
+pub ends_at : (keeps same : Bool) (plan : Option Plan) (before after store_before store_after : ℕ) (end : Ended) → keeps ≡ same → EndsFor keeps plan before after store_before store_after end →
+    EndsFor same plan before after store_before store_after end
+ends_at keeps same plan before after store_before store_after end is cause = subst (λ b. EndsFor b plan before after store_before store_after end) is cause

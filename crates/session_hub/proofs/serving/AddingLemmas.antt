@@ -74,14 +74,15 @@ adds_as plan P P' Q Q' a b first last adds begun added is =
     let x = adds begun added is in (x.0, x.1, x.2, λ holds. last (added ++ x.0) (x.3 (first added holds)))
 
 -- calls that serve, one after another
-pub serves_none : (plan : Option Plan) (faults lost refusals : ℕ) → OnlyServes plan plan faults faults lost lost refusals refusals
-serves_none plan faults lost refusals = record { plan = refl; faults = refl; lost = NeverFalls-refl lost; refusals = NeverFalls-refl refusals }
+pub serves_none : {plan : Option Plan} {faults store lost refusals : ℕ} → OnlyServes plan plan faults faults store store lost lost refusals refusals
+serves_none {lost = lost} {refusals = refusals} = record { plan = refl; faults = refl; store_faults = refl; lost = NeverFalls-refl lost; refusals = NeverFalls-refl refusals }
 
-pub serves_then : (p q s : Option Plan) (f g h k l m a b d : ℕ) → OnlyServes p q f g k l a b → OnlyServes q s g h l m b d → OnlyServes p s f h k m a d
-serves_then p q s f g h k l m a b d first second =
+pub serves_then : {p q s : Option Plan} {a b c d e f g h i j k l : ℕ} → OnlyServes p q a b d e g h j k → OnlyServes q s b c e f h i k l → OnlyServes p s a c d f g i j l
+serves_then first second =
     record {
       plan = second.plan ∙ first.plan;
       faults = second.faults ∙ first.faults;
+      store_faults = second.store_faults ∙ first.store_faults;
       lost = NeverFalls-trans first.lost second.lost;
       refusals = NeverFalls-trans first.refusals second.refusals;
     }

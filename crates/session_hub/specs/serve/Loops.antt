@@ -98,14 +98,15 @@ abbrev pub MayFail : Option Plan → Type 0
 MayFail None = Unit {0}
 MayFail (Some plan) = plan.failing ≡ [] → ⊥
 
--- a fault of the link comes exactly where its count of faults rose, and never where a plan has no failing calls, and one of
--- its store where changes are kept alone; with want of memory it may have come as well
-unfoldable pub EndsFor : Bool → Option Plan → ℕ → ℕ → Ended → Type 0
-EndsFor keeps plan before after LinkFault = Rose before after × MayFail plan
-EndsFor keeps plan before after StoreFault = Rose before after × MayFail plan × (keeps ≡ true)
-EndsFor keeps plan before after Stopped = after ≡ before
-EndsFor keeps plan before after TurnsSpent = after ≡ before
-EndsFor keeps plan before after NoMemory = NeverFalls before after
+-- a fault of the link comes exactly where its count of faults rose, and one of its store exactly where that count did, the
+-- other being as it was; neither comes where a plan has no failing calls, and the store's only where changes are kept; with want
+-- of memory one of the link may have come as well
+unfoldable pub EndsFor : Bool → Option Plan → ℕ → ℕ → ℕ → ℕ → Ended → Type 0
+EndsFor keeps plan before after store_before store_after LinkFault = Rose before after × (store_after ≡ store_before) × MayFail plan
+EndsFor keeps plan before after store_before store_after StoreFault = Rose store_before store_after × (after ≡ before) × MayFail plan × (keeps ≡ true)
+EndsFor keeps plan before after store_before store_after Stopped = (after ≡ before) × (store_after ≡ store_before)
+EndsFor keeps plan before after store_before store_after TurnsSpent = (after ≡ before) × (store_after ≡ store_before)
+EndsFor keeps plan before after store_before store_after NoMemory = NeverFalls before after × (store_after ≡ store_before)
 
 -- the event that was heard last opened a connection
 pub record OpensLast (added : List Item) : Type 0 where

@@ -9,10 +9,10 @@ use Rattle.acl_program.proofs.serve.listen.Goals as goal
 -- the directory is that of the tree
 pub returns-in-Ok : goal.returns-in-Ok
 returns-in-Ok g c = record {
-  listens = λ shelf content. Listens-over c.args.asked.now content _ _ (beside shelf (written _ _) (linked _ _ _ _ _)) (beside shelf (written _ _) (linked _ _ _ _ _)) _
+  listens = λ shelf content. Listens-over c.args.asked.now content _ _ (beside shelf (written _ _) (linked _ _ _ _ _ _)) (beside shelf (written _ _) (linked _ _ _ _ _ _)) _
       (ap entries_of c.in-Ok.ensures.ok) (c.listen_on.ensures.listens shelf content);
 }
 
 -- there was no memory for it
 pub returns-in-Err : goal.returns-in-Err
-returns-in-Err g c = record { listens = λ shelf content. Listens-nothing (listening_asked c.args.asked.now content _) (beside shelf (written _ _) (linked _ _ _ _ _)) }
+returns-in-Err g c = record { listens = λ shelf content. Listens-nothing (listening_asked c.args.asked.now content _) (beside shelf (written _ _) (linked _ _ _ _ _ _)) }

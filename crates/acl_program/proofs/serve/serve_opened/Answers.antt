@@ -8,13 +8,13 @@ use Rattle.acl_program.proofs.serve.serve_opened.Goals as goal
 -- the lines were put
 pub returns-in-Ok : goal.returns-in-Ok
 returns-in-Ok g c = record {
-  opened = λ shelf content. ListensOn-ended (listening_asked c.args.asked.now content _) (beside shelf (written _ _) (linked _ _ _ _ _)) (beside shelf (written _ _) (linked _ _ _ _ _)) _ (written _ _) _
+  opened = λ shelf content. ListensOn-ended (listening_asked c.args.asked.now content _) (beside shelf (written _ _) (linked _ _ _ _ _ _)) (beside shelf (written _ _) (linked _ _ _ _ _ _)) _ (written _ _) _
       c.in-Ok.ensures.tells c.in-Ok.ensures.cause (c.serve_events.ensures.serves shelf content _);
 }
 
 -- they weren't
 pub returns-in-Err : goal.returns-in-Err
 returns-in-Err g c = record {
-  opened = λ shelf content. ListensOn-cut (listening_asked c.args.asked.now content _) (beside shelf (written _ _) (linked _ _ _ _ _)) (beside shelf (written _ _) (linked _ _ _ _ _)) _ _
+  opened = λ shelf content. ListensOn-cut (listening_asked c.args.asked.now content _) (beside shelf (written _ _) (linked _ _ _ _ _ _)) (beside shelf (written _ _) (linked _ _ _ _ _ _)) _ _
       c.in-Err.ensures.tells c.in-Err.ensures.cause c.after.ensures.exact refl;
 }

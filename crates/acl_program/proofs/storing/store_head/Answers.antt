@@ -9,6 +9,7 @@ pub returns-in-Ok : goal.returns-in-Ok
 returns-in-Ok g c = record {
   tells = rw (c.as_slice.ensures.value, c.in-Ok.ensures.exact) at c.store.ensures.tells;
   cause = c.store.ensures.cause;
+  stays = c.store.ensures.faults;
   plan = c.store.ensures.plan;
   lost = c.store.ensures.lost;
   refusals = RefusalCause-never_falls _ _ _ c.store.ensures.refusals;
@@ -17,4 +18,4 @@ returns-in-Ok g c = record {
 -- there was no memory for it
 pub returns-in-Err : goal.returns-in-Err
 unfolding NoteTells LinkCause
-returns-in-Err g c = record { tells = refl; cause = refl; plan = refl; lost = record { never_falls = omega arith }; refusals = record { never_falls = omega arith } }
+returns-in-Err g c = record { tells = refl; cause = refl; stays = refl; plan = refl; lost = record { never_falls = omega arith }; refusals = record { never_falls = omega arith } }

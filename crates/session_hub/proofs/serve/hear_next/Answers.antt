@@ -17,7 +17,7 @@ returns-in-Err-Failed-clause-some g c =
 
 pub returns-in-Err-Failed-clause-cause : goal.returns-in-Err-Failed-clause-cause
 returns-in-Err-Failed-clause-cause g c =
-    ends_as _ _ _ _ _ _ c.end_of.ensures (ends_failed _ _ _ _ c.args.hub.now.was_cut (rw c.in-Err-Failed.field-0-is at c.in-Err-Failed.ensures.cause))
+    ends_as _ _ _ _ _ _ _ _ c.end_of.ensures (ends_failed _ _ _ _ _ _ c.args.hub.now.was_cut (rw c.in-Err-Failed.field-0-is at c.in-Err-Failed.ensures.cause) c.in-Err-Failed.ensures.store_faults)
 
 -- the link had no memory for an event
 pub returns-in-Err-NoMemory-clause-some : goal.returns-in-Err-NoMemory-clause-some
@@ -25,7 +25,7 @@ returns-in-Err-NoMemory-clause-some g c =
     turn_starved c.args.hub.now.bounds.terms _ _ _ _ (held _ c.args.hub.now) _ c.next.new.buf _ (rw c.in-Err-NoMemory.field-0-is at c.in-Err-NoMemory.ensures.tells) (rw c.in-Err-NoMemory.field-0-is at c.in-Err-NoMemory.ensures.plays)
 
 pub returns-in-Err-NoMemory-clause-cause : goal.returns-in-Err-NoMemory-clause-cause
-returns-in-Err-NoMemory-clause-cause g c = ends_starved _ _ _ _ (LinkCause-starved _ _ _ _ (rw c.in-Err-NoMemory.field-0-is at c.in-Err-NoMemory.ensures.cause))
+returns-in-Err-NoMemory-clause-cause g c = ends_starved _ _ _ _ _ _ (LinkCause-starved _ _ _ _ (rw c.in-Err-NoMemory.field-0-is at c.in-Err-NoMemory.ensures.cause)) c.in-Err-NoMemory.ensures.store_faults
 
 -- what changed could not be stored
 pub returns-in-Err-Failed-serve_event-clause-some : goal.returns-in-Err-Failed-serve_event-clause-some
@@ -35,8 +35,8 @@ returns-in-Err-Failed-serve_event-clause-some g c =
 
 pub returns-in-Err-Failed-serve_event-clause-cause : goal.returns-in-Err-Failed-serve_event-clause-cause
 returns-in-Err-Failed-serve_event-clause-cause g c =
-    EndsFor-came c.args.hub.now.bounds.terms.keeps _ _ _ _ _ ended.StoreFault (failing_kept _ _ _ c.next.new.buf c.in-Ok.heard c.in-Ok.ensures.plays) (LinkCause-given _ _ _ _ c.in-Ok.ensures.cause)
-    (ends_unstored _ _ _ _ (rw c.in-Err-Failed-serve_event.field-0-is at c.in-Err-Failed-serve_event.ensures.cause))
+    EndsFor-came c.args.hub.now.bounds.terms.keeps _ _ _ _ _ _ _ _ ended.StoreFault (failing_kept _ _ _ c.next.new.buf c.in-Ok.heard c.in-Ok.ensures.plays) (LinkCause-given _ _ _ _ c.in-Ok.ensures.cause) c.in-Ok.ensures.store_faults
+    (ends_unstored _ _ _ _ _ _ (rw c.in-Err-Failed-serve_event.field-0-is at c.in-Err-Failed-serve_event.ensures.cause) c.in-Err-Failed-serve_event.ensures.faults)
 
 -- there was no memory in the event's block
 pub returns-in-Err-NoMemory-serve_event-clause-some : goal.returns-in-Err-NoMemory-serve_event-clause-some
@@ -45,7 +45,8 @@ returns-in-Err-NoMemory-serve_event-clause-some g c =
     (record { long = c.next.auto.buf ∙ c.requires.long; tells = c.in-Ok.ensures.tells; plays = c.in-Ok.ensures.plays }) (λ start. c.in-Err-NoMemory-serve_event.ensures.adds start) c.in-Err-NoMemory-serve_event.ensures.plan
 
 pub returns-in-Err-NoMemory-serve_event-clause-cause : goal.returns-in-Err-NoMemory-serve_event-clause-cause
-returns-in-Err-NoMemory-serve_event-clause-cause g c = ends_starved _ _ _ _ ((rw c.in-Err-NoMemory-serve_event.field-0-is at c.in-Err-NoMemory-serve_event.ensures.cause) ∙ LinkCause-given _ _ _ _ c.in-Ok.ensures.cause)
+returns-in-Err-NoMemory-serve_event-clause-cause g c =
+    ends_starved _ _ _ _ _ _ (c.in-Err-NoMemory-serve_event.ensures.faults ∙ LinkCause-given _ _ _ _ c.in-Ok.ensures.cause) ((rw c.in-Err-NoMemory-serve_event.field-0-is at c.in-Err-NoMemory-serve_event.ensures.cause) ∙ c.in-Ok.ensures.store_faults)
 
 -- the event is Stop
 pub returns-then-is_stop-clause-some : goal.returns-then-is_stop-clause-some
@@ -55,7 +56,8 @@ returns-then-is_stop-clause-some g c =
 
 pub returns-then-is_stop-clause-cause : goal.returns-then-is_stop-clause-cause
 returns-then-is_stop-clause-cause g c =
-    ends_as _ _ _ _ _ _ c.end_of-then-is_stop.ensures (ends_stopped _ _ _ _ c.serve_event.new.hub.was_cut (c.in-Ok-serve_event.ensures.cause ∙ LinkCause-given _ _ _ _ c.in-Ok.ensures.cause))
+    ends_as _ _ _ _ _ _ _ _ c.end_of-then-is_stop.ensures
+    (ends_stopped _ _ _ _ _ _ c.serve_event.new.hub.was_cut (c.in-Ok-serve_event.ensures.faults ∙ LinkCause-given _ _ _ _ c.in-Ok.ensures.cause) (c.in-Ok-serve_event.ensures.cause ∙ c.in-Ok.ensures.store_faults))
 
 -- the loop goes on
 pub returns-else-is_stop-clause-none : goal.returns-else-is_stop-clause-none
@@ -64,7 +66,10 @@ returns-else-is_stop-clause-none g c =
     (sym c.is_stop.ensures ∙ c.if-is_stop.false) (λ start. c.in-Ok-serve_event.ensures.adds start) c.in-Ok-serve_event.ensures.plan
 
 pub returns-else-is_stop-clause-faults : goal.returns-else-is_stop-clause-faults
-returns-else-is_stop-clause-faults g c = c.in-Ok-serve_event.ensures.cause ∙ LinkCause-given _ _ _ _ c.in-Ok.ensures.cause
+returns-else-is_stop-clause-faults g c = c.in-Ok-serve_event.ensures.faults ∙ LinkCause-given _ _ _ _ c.in-Ok.ensures.cause
+
+pub returns-else-is_stop-clause-store_faults : goal.returns-else-is_stop-clause-store_faults
+returns-else-is_stop-clause-store_faults g c = c.in-Ok-serve_event.ensures.cause ∙ c.in-Ok.ensures.store_faults
 
 -- the cause of each want of memory
 pub returns-in-Err-Failed-clause-memory : goal.returns-in-Err-Failed-clause-memory

@@ -13,6 +13,7 @@ invariant-loop-turn g l =
     record {
       under_way : IsUnderWay l.fn.hub.bounds.terms (entries_of (g.D.Dir.rows l.fn.dir)) l._turn (journal l.fn.link) (journal l.link) (plan l.fn.link) (plan l.link) (held (entries_of (g.D.Dir.rows l.dir)) l.hub) l.waiting.on_hold.items;
       faults : g.L.Link.faults l.link ≡ g.L.Link.faults l.fn.link;
+      store_faults : g.L.Link.store_faults l.link ≡ g.L.Link.store_faults l.fn.link;
       lost : NeverFalls (g.L.Link.lost l.fn.link) (g.L.Link.lost l.link);
       refusals : NeverFalls (g.L.Link.refusals l.fn.link) (g.L.Link.refusals l.link);
       bounds : l.hub.bounds ≡ l.fn.hub.bounds;

@@ -20,7 +20,7 @@ pub returns-in_default-clause-twins : goal.returns-in_default-clause-twins
 returns-in_default-clause-twins g c = starved_twins _ _ _ _
 
 pub returns-in_default-clause-cause : goal.returns-in_default-clause-cause
-returns-in_default-clause-cause g c = ends_starved _ _ _ _ refl
+returns-in_default-clause-cause g c = ends_starved _ _ _ _ _ _ refl refl
 
 -- there was no memory to wait for them
 pub returns-in_default-new-clause-served : goal.returns-in_default-new-clause-served
@@ -33,7 +33,7 @@ pub returns-in_default-new-clause-twins : goal.returns-in_default-new-clause-twi
 returns-in_default-new-clause-twins g c = starved_twins _ _ _ _
 
 pub returns-in_default-new-clause-cause : goal.returns-in_default-new-clause-cause
-returns-in_default-new-clause-cause g c = ends_starved _ _ _ _ refl
+returns-in_default-new-clause-cause g c = ends_starved _ _ _ _ _ _ refl refl
 
 -- there was no memory for a buffer
 pub returns-in_default-new_buffer-clause-served : goal.returns-in_default-new_buffer-clause-served
@@ -46,7 +46,7 @@ pub returns-in_default-new_buffer-clause-twins : goal.returns-in_default-new_buf
 returns-in_default-new_buffer-clause-twins g c = starved_twins _ _ _ _
 
 pub returns-in_default-new_buffer-clause-cause : goal.returns-in_default-new_buffer-clause-cause
-returns-in_default-new_buffer-clause-cause g c = ends_starved _ _ _ _ refl
+returns-in_default-new_buffer-clause-cause g c = ends_starved _ _ _ _ _ _ refl refl
 
 -- it was served
 pub returns-clause-twins : goal.returns-clause-twins
@@ -58,7 +58,7 @@ returns-clause-twins g c =
 pub returns-clause-cause : goal.returns-clause-cause
 returns-clause-cause g c =
     let same : c.in-Ok.hub.bounds.terms.keeps ≡ c.args.bounds.terms.keeps = ap (λ (hub : HubState). hub.bounds.terms.keeps) c.in-Ok.ensures.ok in
-    ends_at _ _ _ _ _ _ same c.serve_in.ensures.cause
+    ends_at _ _ _ _ _ _ _ _ same c.serve_in.ensures.cause
 
 pub returns-in_default-clause-memory : goal.returns-in_default-clause-memory
 returns-in_default-clause-memory g c = starves_first c.args.bounds.terms _ _ _ _ _

@@ -17,7 +17,7 @@ pub returns-in-Ok-clause-some : goal.returns-in-Ok-clause-some
 returns-in-Ok-clause-some g c = synced_ends_with _ _ _ _ _ _ _ _ _ _ _ c.in-Ok.ensures.tells c.in-Ok.ensures.plan c.hear_next.ensures.some
 
 pub returns-in-Ok-clause-cause : goal.returns-in-Ok-clause-cause
-returns-in-Ok-clause-cause g c = ends_synced _ _ _ _ _ _ _ c.in-Ok.ensures.plan c.in-Ok.ensures.cause c.hear_next.ensures.cause
+returns-in-Ok-clause-cause g c = ends_synced _ _ _ _ _ _ _ _ _ _ c.in-Ok.ensures.plan c.in-Ok.ensures.faults c.in-Ok.ensures.cause c.hear_next.ensures.cause
 
 pub returns-in-Ok-clause-lost : goal.returns-in-Ok-clause-lost
 returns-in-Ok-clause-lost g c = NeverFalls-trans c.in-Ok.ensures.lost c.hear_next.ensures.lost
@@ -29,7 +29,7 @@ returns-in-Err-Failed-clause-some g c =
     c.in-Err-Failed.ensures.tells c.in-Err-Failed.ensures.plan
 
 pub returns-in-Err-Failed-clause-cause : goal.returns-in-Err-Failed-clause-cause
-returns-in-Err-Failed-clause-cause g c = ends_unstored _ _ _ _ (rw c.in-Err-Failed.field-0-is at c.in-Err-Failed.ensures.cause)
+returns-in-Err-Failed-clause-cause g c = ends_unstored _ _ _ _ _ _ (rw c.in-Err-Failed.field-0-is at c.in-Err-Failed.ensures.cause) c.in-Err-Failed.ensures.faults
 
 -- there was no memory for that
 pub returns-in-Err-NoMemory-clause-some : goal.returns-in-Err-NoMemory-clause-some
@@ -38,7 +38,7 @@ returns-in-Err-NoMemory-clause-some g c =
     c.in-Err-NoMemory.ensures.tells c.in-Err-NoMemory.ensures.plan
 
 pub returns-in-Err-NoMemory-clause-cause : goal.returns-in-Err-NoMemory-clause-cause
-returns-in-Err-NoMemory-clause-cause g c = ends_starved _ _ _ _ (rw c.in-Err-NoMemory.field-0-is at c.in-Err-NoMemory.ensures.cause)
+returns-in-Err-NoMemory-clause-cause g c = ends_starved _ _ _ _ _ _ c.in-Err-NoMemory.ensures.faults (rw c.in-Err-NoMemory.field-0-is at c.in-Err-NoMemory.ensures.cause)
 
 -- the cause of each want of memory
 pub returns-in-Ok-clause-memory : goal.returns-in-Ok-clause-memory

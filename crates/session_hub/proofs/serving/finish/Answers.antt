@@ -12,7 +12,7 @@ pub returns-in-Err-clause-adds : goal.returns-in-Err-clause-adds
 returns-in-Err-clause-adds g c = λ terms start tree due. c.in-Err.ensures.adds terms start due (held tree c.args.hub.now)
 
 pub returns-in-Ok-clause-serves : goal.returns-in-Ok-clause-serves
-returns-in-Ok-clause-serves g c = serves_then _ _ _ _ _ _ _ _ _ _ _ _ c.in-Ok.ensures.serves c.hang_up_closing.ensures.serves
+returns-in-Ok-clause-serves g c = serves_then c.in-Ok.ensures.serves c.hang_up_closing.ensures.serves
 
 pub returns-in-Ok-clause-wants : goal.returns-in-Ok-clause-wants
 returns-in-Ok-clause-wants g c = wants_after _ _ c.in-Ok.ensures.serves.refusals c.hang_up_closing.ensures.wants

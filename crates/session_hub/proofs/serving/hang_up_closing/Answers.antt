@@ -17,10 +17,10 @@ pub returns-in-Err-clause-adds : goal.returns-in-Err-clause-adds
 returns-in-Err-clause-adds g c = λ terms start tree due on_hold. not_hung_up terms _ start c.args.conn due on_hold (held tree c.args.hub.now) _ _ _ c.in-Err.ensures.tells
 
 pub returns-in-Ok-clause-serves : goal.returns-in-Ok-clause-serves
-returns-in-Ok-clause-serves g c = record { plan = c.in-Ok.ensures.plan; faults = c.in-Ok.ensures.faults; lost = c.in-Ok.ensures.lost; refusals = NoteRefusal-never_falls _ _ _ c.in-Ok.ensures.refusals }
+returns-in-Ok-clause-serves g c = record { plan = c.in-Ok.ensures.plan; faults = c.in-Ok.ensures.faults; store_faults = c.in-Ok.ensures.store_faults; lost = c.in-Ok.ensures.lost; refusals = NoteRefusal-never_falls _ _ _ c.in-Ok.ensures.refusals }
 
 pub returns-in-Err-clause-serves : goal.returns-in-Err-clause-serves
-returns-in-Err-clause-serves g c = record { plan = c.in-Err.ensures.plan; faults = c.in-Err.ensures.faults; lost = c.in-Err.ensures.lost; refusals = NoteRefusal-never_falls _ _ _ c.in-Err.ensures.refusals }
+returns-in-Err-clause-serves g c = record { plan = c.in-Err.ensures.plan; faults = c.in-Err.ensures.faults; store_faults = c.in-Err.ensures.store_faults; lost = c.in-Err.ensures.lost; refusals = NoteRefusal-never_falls _ _ _ c.in-Err.ensures.refusals }
 
 pub returns-in-Err-clause-wants : goal.returns-in-Err-clause-wants
 returns-in-Err-clause-wants g c = NoteRefusal-starved _ _ _ _ c.in-Err.ensures.refusals

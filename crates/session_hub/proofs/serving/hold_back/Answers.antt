@@ -17,7 +17,7 @@ pub hold-requires : goal.hold-requires
 hold-requires g c = sym c.is_on_hold.ensures ∙ c.if-is_on_hold.false
 
 pub returns-clause-serves : goal.returns-clause-serves
-returns-clause-serves g c = record { plan = c.hold-2.ensures.plan; faults = c.hold-2.ensures.faults; lost = c.hold-2.ensures.lost; refusals = NoteRefusal-never_falls _ _ _ c.hold-2.ensures.refusals }
+returns-clause-serves g c = record { plan = c.hold-2.ensures.plan; faults = c.hold-2.ensures.faults; store_faults = c.hold-2.ensures.store_faults; lost = c.hold-2.ensures.lost; refusals = NoteRefusal-never_falls _ _ _ c.hold-2.ensures.refusals }
 
 pub returns-clause-wants : goal.returns-clause-wants
 returns-clause-wants g c = note_wants _ _ c.hold-2.result c.hold-2.ensures.refusals

@@ -7,7 +7,7 @@ use Rattle.session_hub.proofs.serving.send_queue.Goals as goal
 
 -- nothing was sent yet
 pub sending-init : goal.sending-init
-sending-init g c = record { adds = λ terms start tree due on_hold. adds_nothing _ _ _ _ _ refl (λ _ holds. holds); serves = serves_none _ _ _ _; bounds = refl; unstored = refl }
+sending-init g c = record { adds = λ terms start tree due on_hold. adds_nothing _ _ _ _ _ refl (λ _ holds. holds); serves = serves_none; bounds = refl; unstored = refl }
 
 -- nothing is left
 pub returns-then-is_empty-clause-adds : goal.returns-then-is_empty-clause-adds
@@ -24,7 +24,7 @@ sending-preserved g c =
           adds_after _ _ _ _ _ _ _ _ c.sending.invariant.serves.plan (c.sending.invariant.adds terms start tree due on_hold)
           (took_goes terms _ start tree c.args.conn c.in-Took.count due on_hold c.sending.hub c.took.new.self c.queue-queue.result.now _ _ c.in-Took.ensures.tells c.queue-queue.ensures.exact (c.sending.invariant.unstored ∙ c.requires)
           (some_queued c.queue-queue.result.now (sym c.if-is_empty.false ∙ c.is_empty.ensures)) c.in-Took.ensures.fits.1 c.took.ensures.exact);
-      serves = serves_then _ _ _ _ _ _ _ _ _ _ _ _ c.sending.invariant.serves (record { plan = c.in-Took.ensures.plan; faults = c.in-Took.ensures.faults; lost = WriteCause-never_falls _ _ _ _ c.in-Took.ensures.cause; refusals = WriteRefusal-never_falls _ _ _ c.in-Took.ensures.refusals });
+      serves = serves_then c.sending.invariant.serves (record { plan = c.in-Took.ensures.plan; faults = c.in-Took.ensures.faults; store_faults = c.in-Took.ensures.store_faults; lost = WriteCause-never_falls _ _ _ _ c.in-Took.ensures.cause; refusals = WriteRefusal-never_falls _ _ _ c.in-Took.ensures.refusals });
       bounds = ap (λ (h : HubState). h.bounds) c.took.ensures.exact ∙ c.sending.invariant.bounds;
       unstored = ap (λ (h : HubState). h.unstored) c.took.ensures.exact ∙ c.sending.invariant.unstored;
     }
@@ -43,7 +43,7 @@ returns-in-Later-clause-adds g c = λ terms start tree due on_hold.
 
 pub returns-in-Later-clause-serves : goal.returns-in-Later-clause-serves
 returns-in-Later-clause-serves g c =
-    serves_then _ _ _ _ _ _ _ _ _ _ _ _ c.sending.invariant.serves (record { plan = c.in-Later.ensures.plan; faults = c.in-Later.ensures.faults; lost = WriteCause-never_falls _ _ _ _ c.in-Later.ensures.cause; refusals = WriteRefusal-never_falls _ _ _ c.in-Later.ensures.refusals })
+    serves_then c.sending.invariant.serves (record { plan = c.in-Later.ensures.plan; faults = c.in-Later.ensures.faults; store_faults = c.in-Later.ensures.store_faults; lost = WriteCause-never_falls _ _ _ _ c.in-Later.ensures.cause; refusals = WriteRefusal-never_falls _ _ _ c.in-Later.ensures.refusals })
 
 -- the connection was found lost
 pub returns-in-Gone-clause-adds : goal.returns-in-Gone-clause-adds
@@ -54,7 +54,7 @@ returns-in-Gone-clause-adds g c = λ terms start tree due on_hold.
 
 pub returns-in-Gone-clause-serves : goal.returns-in-Gone-clause-serves
 returns-in-Gone-clause-serves g c =
-    serves_then _ _ _ _ _ _ _ _ _ _ _ _ c.sending.invariant.serves (record { plan = c.in-Gone.ensures.plan; faults = c.in-Gone.ensures.faults; lost = WriteCause-never_falls _ _ _ _ c.in-Gone.ensures.cause; refusals = WriteRefusal-never_falls _ _ _ c.in-Gone.ensures.refusals })
+    serves_then c.sending.invariant.serves (record { plan = c.in-Gone.ensures.plan; faults = c.in-Gone.ensures.faults; store_faults = c.in-Gone.ensures.store_faults; lost = WriteCause-never_falls _ _ _ _ c.in-Gone.ensures.cause; refusals = WriteRefusal-never_falls _ _ _ c.in-Gone.ensures.refusals })
 
 -- there was no memory
 pub returns-in-NoMemory-clause-adds : goal.returns-in-NoMemory-clause-adds
@@ -64,7 +64,7 @@ returns-in-NoMemory-clause-adds g c = λ terms start tree due on_hold.
 
 pub returns-in-NoMemory-clause-serves : goal.returns-in-NoMemory-clause-serves
 returns-in-NoMemory-clause-serves g c =
-    serves_then _ _ _ _ _ _ _ _ _ _ _ _ c.sending.invariant.serves (record { plan = c.in-NoMemory.ensures.plan; faults = c.in-NoMemory.ensures.faults; lost = WriteCause-never_falls _ _ _ _ c.in-NoMemory.ensures.cause; refusals = WriteRefusal-never_falls _ _ _ c.in-NoMemory.ensures.refusals })
+    serves_then c.sending.invariant.serves (record { plan = c.in-NoMemory.ensures.plan; faults = c.in-NoMemory.ensures.faults; store_faults = c.in-NoMemory.ensures.store_faults; lost = WriteCause-never_falls _ _ _ _ c.in-NoMemory.ensures.cause; refusals = WriteRefusal-never_falls _ _ _ c.in-NoMemory.ensures.refusals })
 
 pub returns-in-NoMemory-clause-wants : goal.returns-in-NoMemory-clause-wants
 returns-in-NoMemory-clause-wants g c = rose_after c.sending.invariant.serves.refusals (WriteRefusal-starved _ _ c.in-NoMemory.ensures.refusals)

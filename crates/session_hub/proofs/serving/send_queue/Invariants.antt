@@ -13,7 +13,7 @@ invariant-sending g l =
     let plan = g.L.Link.plan in
     record {
       adds : (terms : Terms) (start tree : DirectoryEntries) (due on_hold : List ℕ) → Adds (plan l.fn.link) (IsServing terms start (l.conn ∷ due) (held tree l.fn.hub) on_hold) (IsServing terms start (l.conn ∷ due) (held tree l.hub) on_hold) (journal l.fn.link) (journal l.link);
-      serves : OnlyServes (plan l.fn.link) (plan l.link) (g.L.Link.faults l.fn.link) (g.L.Link.faults l.link) (g.L.Link.lost l.fn.link) (g.L.Link.lost l.link) (g.L.Link.refusals l.fn.link) (g.L.Link.refusals l.link);
+      serves : OnlyServes (plan l.fn.link) (plan l.link) (g.L.Link.faults l.fn.link) (g.L.Link.faults l.link) (g.L.Link.store_faults l.fn.link) (g.L.Link.store_faults l.link) (g.L.Link.lost l.fn.link) (g.L.Link.lost l.link) (g.L.Link.refusals l.fn.link) (g.L.Link.refusals l.link);
       bounds : l.hub.bounds ≡ l.fn.hub.bounds;
       unstored : l.hub.unstored ≡ l.fn.hub.unstored;
     }

@@ -24,13 +24,13 @@ pub returns-in-Err-clause-adds : goal.returns-in-Err-clause-adds
 returns-in-Err-clause-adds g c = λ terms start tree due. c.in-Err.ensures.adds terms start tree due _
 
 pub returns-in-Ok-All-clause-serves : goal.returns-in-Ok-All-clause-serves
-returns-in-Ok-All-clause-serves g c = serves_then _ _ _ _ _ _ _ _ _ _ _ _ c.in-Ok-All.ensures.serves c.finish.ensures.serves
+returns-in-Ok-All-clause-serves g c = serves_then c.in-Ok-All.ensures.serves c.finish.ensures.serves
 
 pub returns-in-Ok-Later-clause-serves : goal.returns-in-Ok-Later-clause-serves
-returns-in-Ok-Later-clause-serves g c = serves_then _ _ _ _ _ _ _ _ _ _ _ _ c.in-Ok-Later.ensures.serves c.hold_back.ensures.serves
+returns-in-Ok-Later-clause-serves g c = serves_then c.in-Ok-Later.ensures.serves c.hold_back.ensures.serves
 
 pub returns-in-Ok-Gone-clause-serves : goal.returns-in-Ok-Gone-clause-serves
-returns-in-Ok-Gone-clause-serves g c = serves_then _ _ _ _ _ _ _ _ _ _ _ _ c.in-Ok-Gone.ensures.serves c.drop_lost.ensures.serves
+returns-in-Ok-Gone-clause-serves g c = serves_then c.in-Ok-Gone.ensures.serves c.drop_lost.ensures.serves
 
 pub returns-in-Ok-All-clause-wants : goal.returns-in-Ok-All-clause-wants
 returns-in-Ok-All-clause-wants g c = wants_after _ _ c.in-Ok-All.ensures.serves.refusals c.finish.ensures.wants

@@ -6,7 +6,7 @@ use Rattle.session_hub.proofs.serving.settle_all.Goals as goal
 
 -- nothing was done yet
 pub settling-init : goal.settling-init
-settling-init g c = record { adds = λ terms start tree. adds_nothing _ _ _ _ _ refl (λ _ holds. holds); serves = serves_none _ _ _ _; bounds = refl; unstored = refl }
+settling-init g c = record { adds = λ terms start tree. adds_nothing _ _ _ _ _ refl (λ _ holds. holds); serves = serves_none; bounds = refl; unstored = refl }
 
 -- one more is settled
 pub settling-preserved : goal.settling-preserved
@@ -16,7 +16,7 @@ settling-preserved g c =
           left_due terms _ start _ _ _ (held tree c.settle.new.hub) _ _ _ c.in-Ok.ensures.due
           (next_goes terms _ _ start c.in-Some.conn _ _ _ _ (held tree c.settling.hub) _ _ _ _ _ c.settling.invariant.serves.plan c.in-Some.ensures.due.0 c.in-Some.ensures.on_hold (c.settling.invariant.adds terms start tree)
           (c.in-Ok.ensures.adds terms start tree _));
-      serves = serves_then _ _ _ _ _ _ _ _ _ _ _ _ c.settling.invariant.serves c.in-Ok.ensures.serves;
+      serves = serves_then c.settling.invariant.serves c.in-Ok.ensures.serves;
       bounds = c.settle.ensures.bounds ∙ c.settling.invariant.bounds;
       unstored = c.settle.ensures.unstored ∙ c.settling.invariant.unstored;
     }
@@ -32,7 +32,7 @@ returns-in-Err-clause-adds g c = λ terms start tree.
     (c.in-Err.ensures.adds terms start tree _)
 
 pub returns-in-Err-clause-serves : goal.returns-in-Err-clause-serves
-returns-in-Err-clause-serves g c = serves_then _ _ _ _ _ _ _ _ _ _ _ _ c.settling.invariant.serves c.in-Err.ensures.serves
+returns-in-Err-clause-serves g c = serves_then c.settling.invariant.serves c.in-Err.ensures.serves
 
 -- nobody is due
 pub returns-clause-adds : goal.returns-clause-adds

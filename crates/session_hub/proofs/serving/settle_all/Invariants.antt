@@ -13,7 +13,7 @@ invariant-settling g l =
     record {
       adds : (terms : Terms) (start tree : DirectoryEntries) →
           Adds (plan l.fn.link) (IsServing terms start l.fn.waiting.due.items (held tree l.fn.hub) l.fn.waiting.on_hold.items) (IsServing terms start l.waiting.due.items (held tree l.hub) l.waiting.on_hold.items) (journal l.fn.link) (journal l.link);
-      serves : OnlyServes (plan l.fn.link) (plan l.link) (g.L.Link.faults l.fn.link) (g.L.Link.faults l.link) (g.L.Link.lost l.fn.link) (g.L.Link.lost l.link) (g.L.Link.refusals l.fn.link) (g.L.Link.refusals l.link);
+      serves : OnlyServes (plan l.fn.link) (plan l.link) (g.L.Link.faults l.fn.link) (g.L.Link.faults l.link) (g.L.Link.store_faults l.fn.link) (g.L.Link.store_faults l.link) (g.L.Link.lost l.fn.link) (g.L.Link.lost l.link) (g.L.Link.refusals l.fn.link) (g.L.Link.refusals l.link);
       bounds : l.hub.bounds ≡ l.fn.hub.bounds;
       unstored : l.hub.unstored ≡ l.fn.hub.unstored;
     }
