@@ -1,10 +1,7 @@
 //! A directory that keeps what decisions need, and changes it by small steps.
 
-ghost use Rattle.std.specs.Prelude.{◌≡◌, Some, IfOk, map};
-ghost use Rattle.dir_tree.specs.tree.Numbered.{entry_of, entries_of, ids_of, subentry_rows};
-ghost use Rattle.acdf_filters.specs.Asking.{protected_of};
-ghost use Rattle.acdf_filters.specs.Granted.{granted, granted_after};
-ghost use Rattle.acdf_filters.specs.weighing.Weighing.{AreMemberships};
+ghost use Rattle.std.specs.Prelude.{◌≡◌, IfOk, map};
+ghost use Rattle.dir_tree.specs.tree.Numbered.{ids_of, subentry_rows};
 
 use crate::posting::{insert_posted, remove_posted, replace_posted};
 use acdf_filters::aci_item::Permission;
@@ -14,7 +11,7 @@ use aci_lists::{
 };
 use dir_tree::schema_tables::AttrId;
 use dir_tree::{Entry, EntryNo, InsertRefusal, NoMemory, RemoveRefusal, ReplaceRefusal, Tree};
-use directory::{Addition, Dir};
+use directory::{Addition, Dir, NumberedEntry};
 use std::alloc::Global;
 use std::marker::Model;
 use value_index::{ValueIndex, index_of};
@@ -56,60 +53,6 @@ impl IndexedDir {
     {
         self.tree.access_subentries()
     }
-
-    // Whether the requester has the permission for the item of an entry, which has the number.
-    #[tactic(auto, unfolding(acdf_filters::specs::Granted::granted))]
-    fn decide_entry<'a>(
-        &'a self,
-        who: &'a Requester,
-        known: &'a [Membership],
-        number: EntryNo,
-        entry: &'a Entry,
-        item: Item<'a>,
-        permission: Permission,
-    ) -> bool
-        requires known { AreMemberships (entries_of self.now) who.now.name known.now }
-        requires entry { entry_of number.0 self.now ≡ Some entry.now }
-        ensures exact { result ≡ granted (entries_of self.now) who.now entry.now (protected_of item.entry) permission }
-    {
-        let question = Question {
-            who,
-            entry,
-            item,
-            permission,
-            after: None,
-            tree: &self.tree,
-            known,
-        };
-        decide_by(&question, &self.held.lists, number)
-    }
-
-    // Whether the requester may add the value to an entry, which has the number.
-    #[tactic(auto, unfolding(acdf_filters::specs::Granted::granted_after))]
-    fn decide_addition(
-        &self,
-        who: &Requester,
-        known: &[Membership],
-        number: EntryNo,
-        entry: &Entry,
-        addition: Addition<'_>,
-    ) -> bool
-        requires known { AreMemberships (entries_of self.now) who.now.name known.now }
-        requires entry { entry_of number.0 self.now ≡ Some entry.now }
-        ensures exact { result ≡ granted_after (entries_of self.now) who.now entry.now
-            addition.entry.after.now addition.entry.kind.0 addition.entry.value.now }
-    {
-        let question = Question {
-            who,
-            entry,
-            item: Item::Value(addition.kind, addition.value),
-            permission: Permission::Add,
-            after: Some(addition.after),
-            tree: &self.tree,
-            known,
-        };
-        decide_by(&question, &self.held.lists, number)
-    }
 }
 
 impl Dir for IndexedDir {
@@ -119,31 +62,45 @@ impl Dir for IndexedDir {
         &self.tree
     }
 
+    #[tactic(auto, unfolding(acdf_filters::specs::Granted::granted))]
     fn decide(
         &self,
         who: &Requester,
         known: &[Membership],
-        number: EntryNo,
+        target: NumberedEntry<'_>,
         item: Item<'_>,
         permission: Permission,
     ) -> bool {
-        match self.tree.at(number) {
-            Some(entry) => self.decide_entry(who, known, number, entry, item, permission),
-            None => false,
-        }
+        let question = Question {
+            who,
+            entry: target.entry,
+            item,
+            permission,
+            after: None,
+            tree: &self.tree,
+            known,
+        };
+        decide_by(&question, &self.held.lists, target.number)
     }
 
+    #[tactic(auto, unfolding(acdf_filters::specs::Granted::granted_after))]
     fn decide_after(
         &self,
         who: &Requester,
         known: &[Membership],
-        number: EntryNo,
+        target: NumberedEntry<'_>,
         addition: Addition<'_>,
     ) -> bool {
-        match self.tree.at(number) {
-            Some(entry) => self.decide_addition(who, known, number, entry, addition),
-            None => false,
-        }
+        let question = Question {
+            who,
+            entry: target.entry,
+            item: Item::Value(addition.kind, addition.value),
+            permission: Permission::Add,
+            after: Some(addition.after),
+            tree: &self.tree,
+            known,
+        };
+        decide_by(&question, &self.held.lists, target.number)
     }
 
     fn in_force_new(&self, alloc: Global, entry: &Entry) -> Result<Vec<EntryNo>, NoMemory> {

@@ -19,7 +19,7 @@ use acdf_filters::aci_item::Permission;
 use acdf_filters::{Item, Question, Requester};
 use dir_tree::dn_names::Dn;
 use dir_tree::{Entry, EntryNo, NoMemory};
-use directory::{Dir, find_target};
+use directory::{Dir, find_entry};
 use explanation::AskedDecision;
 use std::alloc::Global;
 
@@ -119,7 +119,7 @@ fn target_text<D: Dir>(
     ensures ok { IfOk result (λ text. text.items ≡ proved_text (entries_of (D.rows dir.now)) who.now
         target.now (protected_of item.entry) permission) }
 {
-    match find_target(dir.tree(), target) {
+    match find_entry(dir.tree(), target) {
         Some(found) => entry_text(alloc, dir, who, found.number, found.entry, item, permission),
         None => Vec::from_slice(alloc, b"absent\n"),
     }

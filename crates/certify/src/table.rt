@@ -14,7 +14,7 @@ use acdf_filters::{Item, Requester};
 use dir_tree::dn_names::{Dn, Value};
 use dir_tree::schema_tables::AttrId;
 use dir_tree::{EntryNo, NoMemory};
-use directory::{Asking, Dir, Target, find_target};
+use directory::{Asking, Dir, NumberedEntry, Target, find_entry};
 use explanation::{asked_permissions, permission_name};
 use std::alloc::Global;
 
@@ -28,19 +28,17 @@ fn put_permission(permission: Permission, out: &mut String) -> Result<(), NoMemo
 
 // Writes those that are granted for the item.
 fn put_granted<D: Dir>(
-    asking: &Asking<'_, D>,
-    target: Target<'_>,
+    target: &Target<'_, '_, D>,
     item: Item<'_>,
     out: &mut String,
 ) -> Result<(), NoMemory>
-    requires { entry_of target.number.0 (D.rows asking.now.dir.now) ≡ Some target.entry.now }
     ensures ok { OnOk result (string_bytes out.new ≡ string_bytes out.old ++ flat_map permission_text
-        (granted_permissions (entries_of (D.rows asking.now.dir.now)) asking.now.who.now target.entry.entry.now
-        (protected_of item.entry))) }
+        (granted_permissions (entries_of (D.rows target.now.asking.now.dir.now)) target.now.asking.now.who.now
+        target.now.entry.now (protected_of item.entry))) }
 {
     let permissions = asked_permissions();
     for permission in permissions {
-        if asking.allows(target, item, *permission) {
+        if target.allows(item, *permission) {
             put_permission(*permission, out)?;
         }
     }
@@ -49,18 +47,17 @@ fn put_granted<D: Dir>(
 
 // Writes the line of the item.
 fn put_rights<D: Dir>(
-    asking: &Asking<'_, D>,
-    target: Target<'_>,
+    target: &Target<'_, '_, D>,
     words: &str,
     item: Item<'_>,
     out: &mut String,
 ) -> Result<(), NoMemory>
-    requires { entry_of target.number.0 (D.rows asking.now.dir.now) ≡ Some target.entry.now }
     ensures ok { OnOk result (string_bytes out.new ≡ string_bytes out.old ++ rights_line
-        (entries_of (D.rows asking.now.dir.now)) asking.now.who.now target.entry.entry.now words.now (protected_of item.entry)) }
+        (entries_of (D.rows target.now.asking.now.dir.now)) target.now.asking.now.who.now target.now.entry.now
+        words.now (protected_of item.entry)) }
 {
     out.push_str(words)?;
-    put_granted(asking, target, item, out)?;
+    put_granted(target, item, out)?;
     out.push_str("\n")
 }
 
@@ -86,95 +83,74 @@ fn value_words(alloc: Global, kind: AttrId, number: usize) -> Result<String, NoM
 
 // Writes the line of a value, which has the number.
 fn put_value<D: Dir>(
-    asking: &Asking<'_, D>,
-    target: Target<'_>,
+    target: &Target<'_, '_, D>,
     kind: AttrId,
     number: usize,
     value: &Value,
     out: &mut String,
 ) -> Result<(), NoMemory>
-    requires { entry_of target.number.0 (D.rows asking.now.dir.now) ≡ Some target.entry.now }
     ensures ok { OnOk result (string_bytes out.new ≡ string_bytes out.old ++ rights_line
-        (entries_of (D.rows asking.now.dir.now)) asking.now.who.now target.entry.entry.now
+        (entries_of (D.rows target.now.asking.now.dir.now)) target.now.asking.now.who.now target.now.entry.now
         (value_words kind.0 number) (protected.Value kind.0 value.now)) }
 {
     let words = value_words(*out.allocator(), kind, number)?;
-    put_rights(
-        asking,
-        target,
-        words.as_str(),
-        Item::Value(kind, value),
-        out,
-    )
+    put_rights(target, words.as_str(), Item::Value(kind, value), out)
 }
 
 // Writes those of the values of a type.
 fn put_values<D: Dir>(
-    asking: &Asking<'_, D>,
-    target: Target<'_>,
+    target: &Target<'_, '_, D>,
     kind: AttrId,
     values: &[Value],
     out: &mut String,
 ) -> Result<(), NoMemory>
-    requires { entry_of target.number.0 (D.rows asking.now.dir.now) ≡ Some target.entry.now }
     ensures ok { OnOk result (string_bytes out.new ≡ string_bytes out.old ++ value_lines
-        (entries_of (D.rows asking.now.dir.now)) asking.now.who.now target.entry.entry.now kind.0 0 values.now) }
+        (entries_of (D.rows target.now.asking.now.dir.now)) target.now.asking.now.who.now target.now.entry.now
+        kind.0 0 values.now) }
 {
     for (number, value) in values.iter().enumerate() {
-        put_value(asking, target, kind, number, value, out)?;
+        put_value(target, kind, number, value, out)?;
     }
     Ok(())
 }
 
 // Writes the lines of an attribute.
 fn put_attribute<D: Dir>(
-    asking: &Asking<'_, D>,
-    target: Target<'_>,
+    target: &Target<'_, '_, D>,
     kind: AttrId,
     values: &[Value],
     out: &mut String,
 ) -> Result<(), NoMemory>
-    requires { entry_of target.number.0 (D.rows asking.now.dir.now) ≡ Some target.entry.now }
     ensures ok { OnOk result (string_bytes out.new ≡ string_bytes out.old ++ attribute_lines
-        (entries_of (D.rows asking.now.dir.now)) asking.now.who.now target.entry.entry.now
+        (entries_of (D.rows target.now.asking.now.dir.now)) target.now.asking.now.who.now target.now.entry.now
         (record { kind = kind.0; values = values.now })) }
 {
     let words = kind_words(*out.allocator(), kind)?;
-    put_rights(asking, target, words.as_str(), Item::Kind(kind), out)?;
-    put_values(asking, target, kind, values, out)
+    put_rights(target, words.as_str(), Item::Kind(kind), out)?;
+    put_values(target, kind, values, out)
 }
 
 // Writes those of all attributes.
-fn put_attributes<D: Dir>(
-    asking: &Asking<'_, D>,
-    target: Target<'_>,
-    out: &mut String,
-) -> Result<(), NoMemory>
-    requires { entry_of target.number.0 (D.rows asking.now.dir.now) ≡ Some target.entry.now }
+fn put_attributes<D: Dir>(target: &Target<'_, '_, D>, out: &mut String) -> Result<(), NoMemory>
     ensures ok { OnOk result (string_bytes out.new ≡ string_bytes out.old ++ flat_map (attribute_lines
-        (entries_of (D.rows asking.now.dir.now)) asking.now.who.now target.entry.entry.now)
-        target.entry.entry.now.attributes) }
+        (entries_of (D.rows target.now.asking.now.dir.now)) target.now.asking.now.who.now target.now.entry.now)
+        target.now.entry.now.attributes) }
 {
     for (kind, values) in target.entry.attributes() {
-        put_attribute(asking, target, kind, values, out)?;
+        put_attribute(target, kind, values, out)?;
     }
     Ok(())
 }
 
 // The table of the target.
 #[tactic(auto, unfolding(crate::specs::RightsTable::rights_text))]
-fn target_table<D: Dir>(
-    alloc: Global,
-    asking: &Asking<'_, D>,
-    target: Target<'_>,
-) -> Result<String, NoMemory>
-    requires { entry_of target.number.0 (D.rows asking.now.dir.now) ≡ Some target.entry.now }
+fn target_table<D: Dir>(alloc: Global, target: &Target<'_, '_, D>) -> Result<String, NoMemory>
     ensures ok { IfOk result (λ text. string_bytes text ≡ rights_text
-        (entries_of (D.rows asking.now.dir.now)) asking.now.who.now target.entry.entry.now) }
+        (entries_of (D.rows target.now.asking.now.dir.now)) target.now.asking.now.who.now target.now.entry.now) }
 {
     let mut text = String::new(alloc);
-    put_rights(asking, target, "entry", Item::Entry, &mut text)?;
-    put_attributes(asking, target, &mut text)?;
+    put_rights(target, "entry", Item::Entry, &mut text)?;
+    put_attributes(target, &mut text)?;
     Ok(text)
 }
 
@@ -183,19 +159,19 @@ fn table_for<D: Dir>(
     alloc: Global,
     dir: &D,
     who: &Requester,
-    target: Target<'_>,
+    found: NumberedEntry<'_>,
 ) -> Result<String, NoMemory>
-    requires { entry_of target.number.0 (D.rows dir.now) ≡ Some target.entry.now }
+    requires { entry_of found.number.0 (D.rows dir.now) ≡ Some found.entry.now }
     ensures ok { IfOk result (λ text. string_bytes text
-        ≡ rights_text (entries_of (D.rows dir.now)) who.now target.entry.entry.now) }
+        ≡ rights_text (entries_of (D.rows dir.now)) who.now found.entry.entry.now) }
 {
-    let known = dir.memberships(alloc, who)?;
-    let asking = Asking {
-        dir,
-        who,
-        known: &known,
+    let asking = Asking::new(alloc, dir, who)?;
+    let target = Target {
+        asking: &asking,
+        number: found.number,
+        entry: found.entry,
     };
-    target_table(alloc, &asking, target)
+    target_table(alloc, &target)
 }
 
 /// Appends the table of the requester's rights on the entry of the number: the line `entry`, then for each of its
@@ -219,7 +195,7 @@ pub fn rights<D: Dir>(
     let Some(entry) = dir.tree().at(number) else {
         return Ok(());
     };
-    let text = table_for(alloc, dir, who, Target { number, entry })?;
+    let text = table_for(alloc, dir, who, NumberedEntry { number, entry })?;
     out.extend_from_slice(text.as_bytes())
 }
 
@@ -234,7 +210,7 @@ pub fn rights_text<D: Dir>(
 ) -> Result<Vec<u8>, NoMemory>
     ensures ok { IfOk result (λ text. text.items ≡ rights_at (entries_of (D.rows dir.now)) who.now target.now) }
 {
-    match find_target(dir.tree(), target) {
+    match find_entry(dir.tree(), target) {
         Some(found) => Ok(table_for(alloc, dir, who, found)?.into_bytes()),
         None => Vec::from_slice(alloc, b"absent\n"),
     }

@@ -20,7 +20,7 @@ use acdf_filters::Question;
 use admin_scope::in_force;
 use dir_tree::dn_names::{Dn, same};
 use dir_tree::{NoMemory, Tree};
-use directory::{Target, find_target};
+use directory::{NumberedEntry, find_entry};
 use explanation::{AskedDecision, after, read_name};
 use line_text::next_line;
 use std::alloc::Global;
@@ -116,7 +116,7 @@ pub fn verify(alloc: Global, tree: &Tree, text: &[u8]) -> Result<bool, CertFault
     ensures exact { Answers (λ granted. granted) cause_of result (verified (entries_of tree.now) text.now) }
 {
     let asked = read_form(alloc, text)?;
-    match find_target(tree, &asked.target) {
+    match find_entry(tree, &asked.target) {
         Some(found) => check(alloc, tree, &asked, found, text),
         None => Err(CertFault::False { line: 2 }),
     }

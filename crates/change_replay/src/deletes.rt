@@ -11,16 +11,16 @@ use crate::names::{name_in, target_in};
 use change_records::ldap_msg::{DeleteRequest, ResultCode};
 use dir_tree::Tree;
 use dir_tree::dn_names::Dn;
-use op_add_delete::directory::{Target, is_suffix};
+use op_add_delete::directory::{NumberedEntry, is_suffix};
 use std::alloc::Global;
 
 // The target may go, or why not.
-fn check_target(tree: &Tree, target: Target<'_>) -> Result<Step, Fault>
+fn check_target(tree: &Tree, target: NumberedEntry<'_>) -> Result<Step, Fault>
     requires found { entry_of target.number.0 tree.now ≡ Some target.entry.now }
     ensures exact { Leads tree.now result (without_target (entries_of tree.now) target.entry.entry.now) }
     ensures named { IfOk result HasName }
 {
-    if is_suffix(tree, target.entry.name()) {
+    if is_suffix(tree, target) {
         return Err(refusal(ResultCode::UnwillingToPerform));
     }
     if tree.has_below(target.number) {

@@ -18,7 +18,7 @@ use dir_tree::dn_names::Dn;
 use dir_tree::{Entry, Tree};
 use entry_changes::{ChangeFault, EntryChange, change_entry};
 use op_add_delete::Fault as ReadFault;
-use op_add_delete::directory::Target;
+use op_add_delete::directory::NumberedEntry;
 use std::alloc::Global;
 
 // The entry as the changes leave it.
@@ -34,7 +34,12 @@ fn changed(alloc: Global, entry: &Entry, changes: Vec<EntryChange>) -> Result<En
 }
 
 // The entry may take the target's place, or why not.
-fn check_left(alloc: Global, tree: &Tree, target: Target<'_>, left: Entry) -> Result<Step, Fault>
+fn check_left(
+    alloc: Global,
+    tree: &Tree,
+    target: NumberedEntry<'_>,
+    left: Entry,
+) -> Result<Step, Fault>
     requires found { entry_of target.number.0 tree.now ≡ Some target.entry.now }
     ensures exact { Leads tree.now result (with_in_place (entries_of tree.now) target.entry.entry.now left) }
     ensures named { IfOk result HasName }
@@ -50,7 +55,7 @@ fn check_target(
     alloc: Global,
     tree: &Tree,
     changes: Vec<EntryChange>,
-    target: Target<'_>,
+    target: NumberedEntry<'_>,
 ) -> Result<Step, Fault>
     requires found { entry_of target.number.0 tree.now ≡ Some target.entry.now }
     ensures exact { Leads tree.now result

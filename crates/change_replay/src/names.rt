@@ -11,7 +11,7 @@ use crate::fault::{Fault, refusal};
 use change_records::ldap_msg::ResultCode;
 use dir_tree::Tree;
 use dir_tree::dn_names::Dn;
-use op_add_delete::directory::{Target, find_target, read_named};
+use op_add_delete::directory::{NumberedEntry, find_entry, read_named};
 use std::alloc::Global;
 
 // The name, unless it is the empty one.
@@ -37,12 +37,12 @@ pub(crate) fn name_in(alloc: Global, octets: &[u8]) -> Result<Dn, Fault>
 }
 
 /// The entry of the name.
-pub(crate) fn target_in<'a>(tree: &'a Tree, name: &Dn) -> Result<Target<'a>, Fault>
+pub(crate) fn target_in<'a>(tree: &'a Tree, name: &Dn) -> Result<NumberedEntry<'a>, Fault>
     ensures exact { Answers (λ target. target.entry.now) cause_of result
         (target_by (named_in name.now (entries_of tree.now))) }
     ensures numbered { IfOk result (λ target. entry_of target.number.0 tree.now ≡ Some target.entry.now) }
 {
-    match find_target(tree, name) {
+    match find_entry(tree, name) {
         Some(target) => Ok(target),
         None => Err(refusal(ResultCode::NoSuchObject)),
     }

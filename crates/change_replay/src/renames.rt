@@ -21,7 +21,7 @@ use change_records::ldap_msg::{RenameRequest, ResultCode};
 use dir_tree::dn_names::{Dn, compare_front, join, same};
 use dir_tree::{Entry, NoMemory, Tree};
 use entry_changes::rename_entry;
-use op_add_delete::directory::{Target, is_suffix};
+use op_add_delete::directory::{NumberedEntry, is_suffix};
 use std::alloc::{AllocError, Global};
 
 // Whether the name is that of the superior that the entry is to have.
@@ -38,10 +38,11 @@ fn is_above(renaming: &Renaming, name: &Dn) -> bool
 }
 
 // Whether the target is the suffix, or would be its own superior.
-fn is_unmovable(tree: &Tree, renaming: &Renaming, target: Target<'_>) -> bool
+fn is_unmovable(tree: &Tree, renaming: &Renaming, target: NumberedEntry<'_>) -> bool
+    requires found { entry_of target.number.0 tree.now ≡ Some target.entry.now }
     ensures exact { result ≡ is_unmovable (entries_of tree.now) renaming.now target.entry.entry.now }
 {
-    is_suffix(tree, target.entry.name()) || is_above(renaming, target.entry.name())
+    is_suffix(tree, target) || is_above(renaming, target.entry.name())
 }
 
 // The RDNs of the superior, and then the new one. As another name may stand below the superior's, the error is always want
@@ -74,7 +75,7 @@ fn become_renamed(
     alloc: Global,
     tree: &Tree,
     renaming: &Renaming,
-    target: Target<'_>,
+    target: NumberedEntry<'_>,
 ) -> Result<Entry, Fault>
     requires found { entry_of target.number.0 tree.now ≡ Some target.entry.now }
     ensures exact { Answers (λ entry. entry) cause_of result
@@ -93,7 +94,7 @@ fn become_renamed(
 }
 
 // The number of the refusal where an entry other than the target has the name.
-fn other_refusal(tree: &Tree, target: Target<'_>, name: &Dn) -> Option<u8>
+fn other_refusal(tree: &Tree, target: NumberedEntry<'_>, name: &Dn) -> Option<u8>
     ensures exact { result ≡ taken_refusal (other_named (entries_of tree.now) target.entry.entry.now name.now) }
 {
     if same(name, target.entry.name()) {
@@ -106,7 +107,7 @@ fn other_refusal(tree: &Tree, target: Target<'_>, name: &Dn) -> Option<u8>
 fn coming_refusal(
     alloc: Global,
     tree: &Tree,
-    target: Target<'_>,
+    target: NumberedEntry<'_>,
     entry: &Entry,
 ) -> Result<Option<u8>, NoMemory>
     requires found { entry_of target.number.0 tree.now ≡ Some target.entry.now }
@@ -120,7 +121,12 @@ fn coming_refusal(
 }
 
 // The renamed entry may take the target's place, or why not.
-fn check_moved(alloc: Global, tree: &Tree, target: Target<'_>, entry: Entry) -> Result<Step, Fault>
+fn check_moved(
+    alloc: Global,
+    tree: &Tree,
+    target: NumberedEntry<'_>,
+    entry: Entry,
+) -> Result<Step, Fault>
     requires found { entry_of target.number.0 tree.now ≡ Some target.entry.now }
     ensures exact { Leads tree.now result (with_moved (entries_of tree.now) target.entry.entry.now entry) }
     ensures named { IfOk result HasName }
@@ -136,7 +142,7 @@ fn check_target(
     alloc: Global,
     tree: &Tree,
     renaming: &Renaming,
-    target: Target<'_>,
+    target: NumberedEntry<'_>,
 ) -> Result<Step, Fault>
     requires found { entry_of target.number.0 tree.now ≡ Some target.entry.now }
     ensures exact { Leads tree.now result

@@ -9,7 +9,7 @@ ghost use Rattle.change_replay.specs.Applied.{taken_refusal};
 use change_records::ldap_msg::ResultCode;
 use dir_tree::dn_names::Dn;
 use dir_tree::{Entry, NoMemory, Tree};
-use op_add_delete::directory::{Target, find_target};
+use op_add_delete::directory::{NumberedEntry, find_entry};
 use op_add_delete::schema_rules::{Broken, check_entry};
 use std::alloc::{AllocError, Global};
 
@@ -17,7 +17,7 @@ use std::alloc::{AllocError, Global};
 pub(crate) fn taken_refusal(tree: &Tree, name: &Dn) -> Option<u8>
     ensures exact { result ≡ taken_refusal (named_in name.now (entries_of tree.now)) }
 {
-    match find_target(tree, name) {
+    match find_entry(tree, name) {
         Some(_) => Some(ResultCode::EntryAlreadyExists.number()),
         None => None,
     }
@@ -42,7 +42,7 @@ pub(crate) fn broken_as_new(
 pub(crate) fn broken_in_place(
     alloc: Global,
     tree: &Tree,
-    target: Target<'_>,
+    target: NumberedEntry<'_>,
     entry: &Entry,
 ) -> Result<Option<u8>, NoMemory>
     requires found { entry_of target.number.0 tree.now ≡ Some target.entry.now }

@@ -1,5 +1,5 @@
 -- The definitions on small cases.
-use Rattle.std.proofs.Common.{◌≡◌, ℕ, true, false, [], ◌∷◌, List, None, refl}
+use Rattle.std.proofs.Common.{◌≡◌, ℕ, true, false, [], ◌∷◌, List, refl}
 use Rattle.std.specs.Prelude.{codes}
 use Rattle.dir_tree.specs.dn_names.name.Names.{Keyed, RdnSequence}
 use Rattle.dir_tree.specs.dn_names.NameOrder.{name_cmp, is_same}
@@ -11,7 +11,6 @@ use Rattle.acdf_filters.specs.aci_item.declared.permission.Permission.TheVariant
 use Rattle.ldap_msg.specs.declared.operations.ResultCode.TheVariants as code
 use Rattle.read_model.specs.Views.{view_of, no_such_object, result_of}
 use Rattle.directory.specs.Targets.{is_suffix, not_leaf}
-use Rattle.directory.specs.Nearest.{nearest_name}
 
 -- a value whose key is its octets
 plain_value : List ℕ → Keyed
@@ -45,7 +44,3 @@ a_known_target entries who name target known = rw known refl
 
 a_hidden_target : (entries : List EntryInformation) (who : Requester) (name : RdnSequence) (target : EntryInformation) → granted entries who target Entry DiscloseOnError ≡ false → not_leaf entries who name target ≡ no_such_object (view_of entries who) name
 a_hidden_target entries who name target hidden = rw hidden refl
-
--- a number that isn't in use names nothing
-no_nearest : nearest_name [] None ≡ []
-no_nearest = refl

@@ -2,7 +2,6 @@
 
 ghost use Rattle.std.specs.Prelude.{◌≡◌, ◌≢◌, ◌⊎◌, [], Some, None, IfOk, IfErr, IfSome, IsSome, OnOk, OnErr, false, map};
 ghost use Rattle.std.specs.List.{AllByRecursion};
-ghost use Rattle.std.specs.Option.{option_map_or};
 ghost use Rattle.dir_tree.specs.Entry.{EntryInformation};
 ghost use Rattle.dir_tree.specs.tree.Numbered.{entry_of, entries_of, entries_at, put_entry, without};
 ghost use Rattle.dir_tree.specs.Refusals.{insert_refusal, remove_refusal, replace_refusal};
@@ -13,6 +12,7 @@ ghost use Rattle.acdf_filters.specs.weighing.Weighing.{AreMemberships};
 ghost use Rattle.acdf_filters.specs.admin_scope.InForce.{AreInForce};
 ghost use Rattle.value_index.specs.Holders.{HasHolders};
 
+use crate::entries::NumberedEntry;
 use acdf_filters::aci_item::Permission;
 use acdf_filters::{Item, Membership, Requester};
 use dir_tree::dn_names::Value;
@@ -39,37 +39,35 @@ pub trait Dir {
     fn tree(&self) -> &Tree
         ensures exact { result.now ≡ rows self.now };
 
-    /// Whether the requester has the permission for the item of the entry of the number (X.501 18.8); false where the
-    /// number is not in use. A value that is added is added alone. The groups that are known are not asked for. No memory is
-    /// taken.
+    /// Whether the requester has the permission for the item of the target (X.501 18.8). A value that is added is added
+    /// alone. The groups that are known are not asked for. No memory is taken.
     fn decide(
         &self,
         who: &Requester,
         known: &[Membership],
-        number: EntryNo,
+        target: NumberedEntry<'_>,
         item: Item<'_>,
         permission: Permission,
     ) -> bool
         requires known { AreMemberships (entries_of (rows self.now)) who.now.name known.now }
-        ensures exact { result ≡ option_map_or
-            (λ entry. granted (entries_of (rows self.now)) who.now entry (protected_of item.entry) permission)
-            (entry_of number.0 (rows self.now)) false };
+        requires found { entry_of target.number.0 (rows self.now) ≡ Some target.entry.now }
+        ensures exact { result ≡ granted (entries_of (rows self.now)) who.now target.entry.entry.now
+            (protected_of item.entry) permission };
 
-    /// Whether the requester may add the value to the entry of the number (X.501 18.8), as part of a change that would leave
-    /// another entry in its place: in that one maxValueCount and restrictedBy count values. False where the number is not
-    /// in use. The groups that are known are not asked for. No memory is taken.
+    /// Whether the requester may add the value to the target (X.501 18.8), as part of a change that would leave another
+    /// entry in its place: in that one maxValueCount and restrictedBy count values. The groups that are known are not asked
+    /// for. No memory is taken.
     fn decide_after(
         &self,
         who: &Requester,
         known: &[Membership],
-        number: EntryNo,
+        target: NumberedEntry<'_>,
         addition: Addition<'_>,
     ) -> bool
         requires known { AreMemberships (entries_of (rows self.now)) who.now.name known.now }
-        ensures exact { result ≡ option_map_or
-            (λ entry. granted_after (entries_of (rows self.now)) who.now entry
-            addition.entry.after.now addition.entry.kind.0 addition.entry.value.now)
-            (entry_of number.0 (rows self.now)) false };
+        requires found { entry_of target.number.0 (rows self.now) ≡ Some target.entry.now }
+        ensures exact { result ≡ granted_after (entries_of (rows self.now)) who.now target.entry.entry.now
+            addition.entry.after.now addition.entry.kind.0 addition.entry.value.now };
 
     /// The numbers of the access control subentries in force for an entry that is to be added (X.501 18.3): its areas
     /// begin at its superior, and for a subentry there are none. Found once for many decisions, they hold as long as the

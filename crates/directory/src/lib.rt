@@ -5,6 +5,7 @@
 
 mod asking;
 mod dir;
+mod entries;
 mod hiding;
 mod nearest;
 mod newcomer;
@@ -12,11 +13,12 @@ mod results;
 mod targets;
 mod texts;
 
-pub use asking::{Asking, Target, find_target};
+pub use asking::{Asking, Target};
 pub use dir::{Addition, Dir};
-pub use hiding::{discloses, hidden, no_such_object};
+pub use entries::{NumberedEntry, find_entry, is_suffix};
+pub use hiding::{absent, hidden, no_such_object};
 pub use newcomer::Newcomer;
 pub use results::{result_numbered, result_of, result_with};
-pub use targets::{is_suffix, not_leaf};
+pub use targets::not_leaf;
 pub use texts::{copied, printed, read_named};
 pub use value_index;

@@ -51,7 +51,7 @@ impl<'a, 'b, D: Dir> Newcomer<'a, 'b, D> {
         let asking = self.asking;
         asking.dir.decide_new(
             asking.who,
-            asking.known,
+            &asking.known,
             self.entry,
             &self.in_force,
             item,

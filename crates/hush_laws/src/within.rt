@@ -15,7 +15,7 @@ use aci_item::Permission;
 use dir_tree::dn_names::{Dn, is_prefix};
 use dir_tree::{EntryNo, NoMemory, Scope, Tree};
 use op_read::acdf_filters::{Item, Requester};
-use op_read::directory::{Asking, Dir, Target};
+use op_read::directory::{Asking, Dir};
 use std::alloc::Global;
 
 /// Whether the name is below that of the suffix; false where there are no entries.
@@ -45,17 +45,16 @@ pub fn governs_within(tree: &Tree, top: &Dn) -> bool
 fn is_shown_at<D: Dir>(asking: &Asking<'_, D>, top: &Dn, number: EntryNo) -> bool
     ensures exact { result ≡ is_number_shown top.now (D.rows asking.now.dir.now) asking.now.who.now number.0 }
 {
-    let Some(entry) = asking.dir.tree().at(number) else {
+    let Some(target) = asking.at(number) else {
         return false;
     };
-    if !is_prefix(top, entry.name()) {
+    if !is_prefix(top, target.entry.name()) {
         return false;
     }
-    let target = Target { number, entry };
-    asking.allows(target, Item::Entry, Permission::Browse)
-        || asking.allows(target, Item::Entry, Permission::Read)
-        || asking.allows(target, Item::Entry, Permission::ReturnDn)
-        || asking.allows(target, Item::Entry, Permission::DiscloseOnError)
+    target.allows(Item::Entry, Permission::Browse)
+        || target.allows(Item::Entry, Permission::Read)
+        || target.allows(Item::Entry, Permission::ReturnDn)
+        || target.allows(Item::Entry, Permission::DiscloseOnError)
 }
 
 // Whether an entry of those from the number on is.
@@ -96,11 +95,6 @@ pub fn shows_within<D: Dir>(
     ensures ok { IfOk result (λ shows.
         shows ≡ shows_within top.now (view_of (entries_of (D.rows dir.now)) who.now)) }
 {
-    let known = dir.memberships(alloc, who)?;
-    let asking = Asking {
-        dir,
-        who,
-        known: &known,
-    };
+    let asking = Asking::new(alloc, dir, who)?;
     Ok(is_any_shown(&asking, top))
 }

@@ -2,10 +2,10 @@
 
 use crate::directories::{kept_at, number, put, said_at};
 use acdf_filters::aci_item::{Level, Permission};
-use acdf_filters::{Item, Membership, Requester};
+use acdf_filters::{Item, Requester};
 use aci_index::IndexedDir;
 use dir_tree::{EntryNo, Tree};
-use directory::Dir;
+use directory::{Asking, Dir};
 use std::alloc::Global;
 use std::test::Fail;
 
@@ -59,20 +59,28 @@ fn long_subtrees(alloc: Global, subentries: usize, count: usize) -> Result<Tree,
     Ok(tree)
 }
 
-// How often, of so many times, an anonymous requester may browse the entry.
-fn browsable(dir: &IndexedDir, number: EntryNo, times: usize) -> usize {
+// How often, of so many times, an anonymous requester may browse the entry; never, where there is none.
+fn browsable(
+    alloc: Global,
+    dir: &IndexedDir,
+    number: EntryNo,
+    times: usize,
+) -> Result<usize, Fail> {
     let who = Requester {
         name: None,
         level: Level::Anyone,
     };
-    let known: &[Membership] = &[];
+    let asking = Asking::new(alloc, dir, &who)?;
+    let Some(target) = asking.at(number) else {
+        return Ok(0);
+    };
     let mut count: usize = 0;
     for _ in 0..times {
-        if dir.decide(&who, known, number, Item::Entry, Permission::Browse) {
+        if target.allows(Item::Entry, Permission::Browse) {
             count = count.saturating_add(1);
         }
     }
-    count
+    Ok(count)
 }
 
 // The subtrees are not tested again: that would be 80,000,000,000 comparisons of names.
@@ -81,7 +89,7 @@ fn decisions_go_by_what_is_kept(rt: HostRuntime) -> Result<(), Fail> {
     let alloc = rt.alloc();
     let dir = IndexedDir::new(alloc, long_subtrees(alloc, 100, 2_000)?)?;
     let device = number(alloc, dir.tree(), "cn=d,dc=v")?;
-    assert_eq!(rt; browsable(&dir, device, 400_000), 400_000);
+    assert_eq!(rt; browsable(alloc, &dir, device, 400_000)?, 400_000);
     Ok(())
 }
 

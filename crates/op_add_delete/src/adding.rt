@@ -3,7 +3,7 @@
 ghost use Rattle.std.specs.Prelude.{◌≡◌, ◌≢◌, ◌||◌, not, [], None, Ok, IfOk, OnOk, OnErr};
 ghost use Rattle.std.specs.List.{list_any};
 ghost use Rattle.dir_tree.specs.tree.Trees.{put_in, named_in, has_name, superior_name};
-ghost use Rattle.dir_tree.specs.tree.Numbered.{entry_of, entries_of};
+ghost use Rattle.dir_tree.specs.tree.Numbered.{entries_of};
 ghost use Rattle.acdf_filters.specs.aci_item.Rules.{broken_rule};
 ghost use Rattle.acdf_filters.specs.aci_item.declared.permission.Permission.TheVariants as permission;
 ghost use Rattle.acdf_filters.specs.Asking as protected;
@@ -20,8 +20,7 @@ use dir_tree::dn_names::{Dn, Value};
 use dir_tree::schema_tables::AttrId;
 use dir_tree::{Entry, NoMemory, Tree};
 use directory::{
-    Asking, Dir, Newcomer, Target, find_target, no_such_object, read_named, result_numbered,
-    result_of,
+    Asking, Dir, Newcomer, Target, no_such_object, read_named, result_numbered, result_of,
 };
 use ldap_msg::{AddRequest, KindValues, LdapResult, ResultCode};
 use ldif_load::schema_rules::{Broken, check_entry};
@@ -30,20 +29,18 @@ use std::alloc::{AllocError, Global};
 // What is answered where the entry has the name already.
 fn there_already<D: Dir>(
     alloc: Global,
-    asking: &Asking<'_, D>,
+    other: &Target<'_, '_, D>,
     name: &Dn,
-    other: Target<'_>,
 ) -> Result<LdapResult, NoMemory>
-    requires found { entry_of other.number.0 (D.rows asking.now.dir.now) ≡ Some other.entry.now }
-    ensures ok { IfOk result (λ ended. ended
-        ≡ there_already (entries_of (D.rows asking.now.dir.now)) asking.now.who.now name.now other.entry.entry.now) }
+    ensures ok { IfOk result (λ ended. ended ≡ there_already (entries_of (D.rows other.now.asking.now.dir.now))
+        other.now.asking.now.who.now name.now other.now.entry.now) }
 {
-    if asking.allows(other, Item::Entry, Permission::DiscloseOnError)
-        || asking.allows(other, Item::Entry, Permission::Add)
+    if other.allows(Item::Entry, Permission::DiscloseOnError)
+        || other.allows(Item::Entry, Permission::Add)
     {
         return Ok(result_of(alloc, ResultCode::EntryAlreadyExists));
     }
-    no_such_object(alloc, asking, name)
+    no_such_object(alloc, other.asking, name)
 }
 
 // The refusal where an entry has the name.
@@ -56,8 +53,8 @@ fn taken_refusal<D: Dir>(
         ≡ taken_refusal (entries_of (D.rows asking.now.dir.now)) asking.now.who.now name.now
         (named_in name.now (entries_of (D.rows asking.now.dir.now)))) }
 {
-    match find_target(asking.dir.tree(), name) {
-        Some(other) => Ok(Some(there_already(alloc, asking, name, other)?)),
+    match asking.find(name) {
+        Some(other) => Ok(Some(there_already(alloc, &other, name)?)),
         None => Ok(None),
     }
 }
@@ -171,12 +168,7 @@ fn check_add<D: Dir>(
     ensures ok { IfOk result (λ refusal. refusal
         ≡ add_refusal (entries_of (D.rows dir.now)) who.now entry.now.name entry.now) }
 {
-    let known = dir.memberships(alloc, who)?;
-    let asking = Asking {
-        dir,
-        who,
-        known: &known,
-    };
+    let asking = Asking::new(alloc, dir, who)?;
     add_refusal(alloc, &asking, entry)
 }
 

@@ -12,9 +12,7 @@ use acdf_filters::aci_item::Permission;
 use acdf_filters::{Item, Requester};
 use dir_tree::dn_names::Dn;
 use dir_tree::{EntryNo, NoMemory};
-use directory::{
-    Asking, Dir, Target, find_target, hidden, is_suffix, not_leaf, read_named, result_of,
-};
+use directory::{Asking, Dir, Target, absent, hidden, not_leaf, read_named, result_of};
 use ldap_msg::{DeleteRequest, LdapResult, ResultCode};
 use std::alloc::{AllocError, Global};
 
@@ -31,24 +29,24 @@ pub(crate) enum Checked {
 #[tactic(auto, unfolding(crate::specs::Deleting::delete_refusal))]
 fn delete_refusal<D: Dir>(
     alloc: Global,
-    asking: &Asking<'_, D>,
+    target: &Target<'_, '_, D>,
     name: &Dn,
-    target: Target<'_>,
 ) -> Result<Option<LdapResult>, NoMemory>
-    requires found { entry_of target.number.0 (D.rows asking.now.dir.now) ≡ Some target.entry.now }
+    requires named { named_in name.now (entries_of (D.rows target.now.asking.now.dir.now))
+        ≡ Some target.now.entry.now }
     ensures ok { IfOk result (λ refusal. refusal
-        ≡ delete_refusal (entries_of (D.rows asking.now.dir.now)) asking.now.who.now name.now
-        target.entry.entry.now) }
+        ≡ delete_refusal (entries_of (D.rows target.now.asking.now.dir.now)) target.now.asking.now.who.now name.now
+        target.now.entry.now) }
 {
-    let tree = asking.dir.tree();
-    if !asking.allows(target, Item::Entry, Permission::Remove) {
-        return Ok(Some(hidden(alloc, asking, name)?));
+    let tree = target.asking.dir.tree();
+    if !target.allows(Item::Entry, Permission::Remove) {
+        return Ok(Some(hidden(alloc, target, name)?));
     }
-    if is_suffix(tree, target.entry.name()) {
+    if target.is_suffix() {
         return Ok(Some(result_of(alloc, ResultCode::UnwillingToPerform)));
     }
     if tree.has_below(target.number) {
-        return Ok(Some(not_leaf(alloc, asking, name, target)?));
+        return Ok(Some(not_leaf(alloc, target, name)?));
     }
     Ok(None)
 }
@@ -62,10 +60,10 @@ fn check_target<D: Dir>(
     ensures ok { IfOk result (λ checked.
         IsChecked (D.rows asking.now.dir.now) asking.now.who.now name.now checked) }
 {
-    let Some(target) = find_target(asking.dir.tree(), name) else {
-        return Ok(Checked::Refused(hidden(alloc, asking, name)?));
+    let Some(target) = asking.find(name) else {
+        return Ok(Checked::Refused(absent(alloc, asking, name)?));
     };
-    match delete_refusal(alloc, asking, name, target)? {
+    match delete_refusal(alloc, &target, name)? {
         Some(refusal) => Ok(Checked::Refused(refusal)),
         None => Ok(Checked::Allowed(target.number)),
     }
@@ -80,12 +78,7 @@ fn check_delete<D: Dir>(
 ) -> Result<Checked, NoMemory>
     ensures ok { IfOk result (λ checked. IsChecked (D.rows dir.now) who.now name.now checked) }
 {
-    let known = dir.memberships(alloc, who)?;
-    let asking = Asking {
-        dir,
-        who,
-        known: &known,
-    };
+    let asking = Asking::new(alloc, dir, who)?;
     check_target(alloc, &asking, name)
 }
 

@@ -4,7 +4,6 @@ pub mod Modifying
 pub mod ReadRenames
 pub mod Renames
 -- for the inside of the crate alone
-pub mod Asked
 pub mod Steps
 -- the words of crates below, handed on
 pub use Rattle.op_add_delete.specs as op_add_delete

@@ -1,37 +1,31 @@
 //! What is asked of one entry.
 
-ghost use Rattle.op_modify.specs.Asked.{asker_at};
+ghost use Rattle.dir_tree.specs.tree.Numbered.{entries_of};
+ghost use Rattle.op_modify.specs.Modifying.{asker_of};
 
 use acdf_filters::Item;
 use acdf_filters::aci_item::Permission;
+use dir_tree::Entry;
 use dir_tree::dn_names::Value;
 use dir_tree::schema_tables::AttrId;
-use dir_tree::{Entry, EntryNo};
 use entry_changes::EntryAsker;
-use op_add_delete::directory::{Addition, Asking, Dir};
+use op_add_delete::directory::{Dir, Target};
 
-/// A requester asks of the entry of a number.
+/// Who asks of a target, as changes of an entry ask.
 #[derive(Drop)]
-pub(crate) struct TargetAsker<'a, 'b, D: Dir> {
-    pub(crate) asking: &'b Asking<'a, D>,
-    pub(crate) number: EntryNo,
+pub(crate) struct TargetAsker<'a, 'b, 'c, D: Dir> {
+    pub(crate) target: &'c Target<'a, 'b, D>,
 }
 
-impl<'a, 'b, D: Dir> EntryAsker for TargetAsker<'a, 'b, D> {
-    ghost asker = { λ asker. asker_at (D.rows asker.asking.now.dir.now) asker.asking.now.who.now asker.number.0 };
+impl<'a, 'b, 'c, D: Dir> EntryAsker for TargetAsker<'a, 'b, 'c, D> {
+    ghost asker = { λ asker. asker_of (entries_of (D.rows asker.target.now.asking.now.dir.now))
+        asker.target.now.asking.now.who.now asker.target.now.entry.now };
 
     fn allows(&self, item: Item<'_>, permission: Permission) -> bool {
-        let asking = self.asking;
-        asking
-            .dir
-            .decide(asking.who, asking.known, self.number, item, permission)
+        self.target.allows(item, permission)
     }
 
     fn adds(&self, after: &Entry, kind: AttrId, value: &Value) -> bool {
-        let asking = self.asking;
-        let addition = Addition { kind, value, after };
-        asking
-            .dir
-            .decide_after(asking.who, asking.known, self.number, addition)
+        self.target.adds(after, kind, value)
     }
 }

@@ -1,7 +1,7 @@
 //! Whether an entry may come to its new place.
 
 ghost use Rattle.std.specs.Prelude.{◌≡◌, not, Some, IfOk};
-ghost use Rattle.dir_tree.specs.tree.Numbered.{entry_of, entries_of};
+ghost use Rattle.dir_tree.specs.tree.Numbered.{entries_of};
 ghost use Rattle.acdf_filters.specs.aci_item.declared.permission.Permission.TheVariants as permission;
 ghost use Rattle.acdf_filters.specs.Asking as protected;
 ghost use Rattle.acdf_filters.specs.Granted.{granted_new};
@@ -17,38 +17,33 @@ use acdf_filters::aci_item::Permission;
 use dir_tree::dn_names::{Dn, same};
 use dir_tree::{Entry, NoMemory};
 use ldap_msg::{LdapResult, ResultCode};
-use op_add_delete::directory::{Asking, Dir, Newcomer, Target, find_target, result_of};
+use op_add_delete::directory::{Asking, Dir, Newcomer, Target, result_of};
 use std::alloc::Global;
 
+// What is told of the entry that has the new name.
+fn taken_code<D: Dir>(other: &Target<'_, '_, D>) -> ResultCode
+    ensures exact { Some (result_of result) ≡ taken_refusal (entries_of (D.rows other.now.asking.now.dir.now))
+        other.now.asking.now.who.now (Some other.now.entry.now) }
+{
+    if other.allows(Item::Entry, Permission::DiscloseOnError) {
+        ResultCode::EntryAlreadyExists
+    } else {
+        ResultCode::InsufficientAccessRights
+    }
+}
+
 // The refusal where an entry other than the target has the name.
-fn taken_refusal<D: Dir>(
-    alloc: Global,
-    asking: &Asking<'_, D>,
-    target: Target<'_>,
-    name: &Dn,
-) -> Option<LdapResult>
-    ensures exact { result ≡ taken_refusal (entries_of (D.rows asking.now.dir.now)) asking.now.who.now
-        (other_named (entries_of (D.rows asking.now.dir.now)) target.entry.entry.now name.now) }
+fn taken_refusal<D: Dir>(alloc: Global, target: &Target<'_, '_, D>, name: &Dn) -> Option<LdapResult>
+    ensures exact { result ≡ taken_refusal (entries_of (D.rows target.now.asking.now.dir.now))
+        target.now.asking.now.who.now
+        (other_named (entries_of (D.rows target.now.asking.now.dir.now)) target.now.entry.now name.now) }
 {
     if same(name, target.entry.name()) {
         return None;
     }
-    match find_target(asking.dir.tree(), name) {
-        Some(other) => Some(result_of(alloc, taken_code(asking, other))),
+    match target.asking.find(name) {
+        Some(other) => Some(result_of(alloc, taken_code(&other))),
         None => None,
-    }
-}
-
-// What is told of the entry that has the new name.
-fn taken_code<D: Dir>(asking: &Asking<'_, D>, other: Target<'_>) -> ResultCode
-    requires found { entry_of other.number.0 (D.rows asking.now.dir.now) ≡ Some other.entry.now }
-    ensures exact { Some (result_of result) ≡ taken_refusal (entries_of (D.rows asking.now.dir.now)) asking.now.who.now
-        (Some other.entry.entry.now) }
-{
-    if asking.allows(other, Item::Entry, Permission::DiscloseOnError) {
-        ResultCode::EntryAlreadyExists
-    } else {
-        ResultCode::InsufficientAccessRights
     }
 }
 
@@ -81,21 +76,19 @@ fn is_unwelcome<D: Dir>(
 /// Why the entry that the target would become does not take its place. The error comes where memory is wanted.
 pub(crate) fn coming_refusal<D: Dir>(
     alloc: Global,
-    asking: &Asking<'_, D>,
+    target: &Target<'_, '_, D>,
     renaming: &Renaming,
-    target: Target<'_>,
     entry: &Entry,
 ) -> Result<Option<LdapResult>, NoMemory>
-    requires found { entry_of target.number.0 (D.rows asking.now.dir.now) ≡ Some target.entry.now }
     ensures ok { IfOk result (λ refusal. refusal ≡ first_some
-        (coming_rows (entries_of (D.rows asking.now.dir.now)) asking.now.who.now renaming.now target.entry.entry.now
-        entry.now)) }
+        (coming_rows (entries_of (D.rows target.now.asking.now.dir.now)) target.now.asking.now.who.now
+        renaming.now target.now.entry.now entry.now)) }
 {
-    if let Some(refusal) = taken_refusal(alloc, asking, target, entry.name()) {
+    if let Some(refusal) = taken_refusal(alloc, target, entry.name()) {
         return Ok(Some(refusal));
     }
-    if is_unwelcome(alloc, asking, renaming, entry)? {
+    if is_unwelcome(alloc, target.asking, renaming, entry)? {
         return Ok(Some(result_of(alloc, ResultCode::InsufficientAccessRights)));
     }
-    rule_refusal(alloc, asking.dir.tree(), target, entry)
+    rule_refusal(alloc, target, entry)
 }

@@ -4,7 +4,7 @@ ghost use Rattle.std.specs.Prelude.{◌≡◌, not, Some, IfOk};
 ghost use Rattle.std.specs.Option.{option_map};
 ghost use Rattle.dir_tree.specs.dn_names.NameOrder.{is_same};
 ghost use Rattle.dir_tree.specs.tree.Trees.{named_in, has_name};
-ghost use Rattle.dir_tree.specs.tree.Numbered.{entry_of, entries_of, find_name};
+ghost use Rattle.dir_tree.specs.tree.Numbered.{entries_of, find_name};
 ghost use Rattle.read_model.specs.Views.{view_of, no_such_object};
 ghost use Rattle.ldap_msg.specs.plain_values.Refusals.{when, first_some};
 ghost use Rattle.op_modify.specs.ReadRenames.{above};
@@ -17,19 +17,16 @@ use acdf_filters::aci_item::Permission;
 use dir_tree::dn_names::{Dn, compare_front, same};
 use dir_tree::{Entry, EntryNo, NoMemory, Tree};
 use ldap_msg::{LdapResult, ResultCode};
-use op_add_delete::directory::{
-    Asking, Dir, Target, hidden, is_suffix, no_such_object, not_leaf, result_of,
-};
+use op_add_delete::directory::{Asking, Dir, Target, hidden, no_such_object, not_leaf, result_of};
 use std::alloc::{AllocError, Global};
 
 // Whether the target may not be renamed, where that is asked, or may not be taken from where it is.
-fn is_withheld<D: Dir>(asking: &Asking<'_, D>, renaming: &Renaming, target: Target<'_>) -> bool
-    requires found { entry_of target.number.0 (D.rows asking.now.dir.now) ≡ Some target.entry.now }
-    ensures exact { result ≡ is_withheld (entries_of (D.rows asking.now.dir.now)) asking.now.who.now renaming.now
-        target.entry.entry.now }
+fn is_withheld<D: Dir>(target: &Target<'_, '_, D>, renaming: &Renaming) -> bool
+    ensures exact { result ≡ is_withheld (entries_of (D.rows target.now.asking.now.dir.now))
+        target.now.asking.now.who.now renaming.now target.now.entry.now }
 {
-    (asks_rename(renaming) && !asking.allows(target, Item::Entry, Permission::Rename))
-        || (moves(renaming) && !asking.allows(target, Item::Entry, Permission::Export))
+    (asks_rename(renaming) && !target.allows(Item::Entry, Permission::Rename))
+        || (moves(renaming) && !target.allows(Item::Entry, Permission::Export))
 }
 
 // Whether the name is that of the superior that the entry is to have.
@@ -46,10 +43,11 @@ fn is_above(renaming: &Renaming, name: &Dn) -> bool
 }
 
 // Whether the target is the suffix, or would be its own superior.
-fn is_unmovable(tree: &Tree, renaming: &Renaming, target: Target<'_>) -> bool
-    ensures exact { result ≡ is_unmovable (entries_of tree.now) renaming.now target.entry.entry.now }
+fn is_unmovable<D: Dir>(target: &Target<'_, '_, D>, renaming: &Renaming) -> bool
+    ensures exact { result ≡ is_unmovable (entries_of (D.rows target.now.asking.now.dir.now)) renaming.now
+        target.now.entry.now }
 {
-    is_suffix(tree, target.entry.name()) || is_above(renaming, target.entry.name())
+    target.is_suffix() || is_above(renaming, target.entry.name())
 }
 
 // The number of the superior that the entry is to have.
@@ -107,23 +105,24 @@ fn above_refusal<D: Dir>(
 /// wanted.
 pub(crate) fn leaving_refusal<D: Dir>(
     alloc: Global,
-    asking: &Asking<'_, D>,
+    target: &Target<'_, '_, D>,
     renaming: &Renaming,
-    target: Target<'_>,
 ) -> Result<Option<LdapResult>, NoMemory>
-    requires found { entry_of target.number.0 (D.rows asking.now.dir.now) ≡ Some target.entry.now }
+    requires named { named_in renaming.now.name (entries_of (D.rows target.now.asking.now.dir.now))
+        ≡ Some target.now.entry.now }
     ensures ok { IfOk result (λ refusal. refusal ≡ first_some
-        (leaving_rows (entries_of (D.rows asking.now.dir.now)) asking.now.who.now renaming.now target.entry.entry.now)) }
+        (leaving_rows (entries_of (D.rows target.now.asking.now.dir.now)) target.now.asking.now.who.now
+        renaming.now target.now.entry.now)) }
 {
-    let tree = asking.dir.tree();
-    if is_withheld(asking, renaming, target) {
-        return Ok(Some(hidden(alloc, asking, &renaming.name)?));
+    let tree = target.asking.dir.tree();
+    if is_withheld(target, renaming) {
+        return Ok(Some(hidden(alloc, target, &renaming.name)?));
     }
-    if is_unmovable(tree, renaming, target) {
+    if is_unmovable(target, renaming) {
         return Ok(Some(result_of(alloc, ResultCode::UnwillingToPerform)));
     }
     if tree.has_below(target.number) {
-        return Ok(Some(not_leaf(alloc, asking, &renaming.name, target)?));
+        return Ok(Some(not_leaf(alloc, target, &renaming.name)?));
     }
-    above_refusal(alloc, asking, renaming)
+    above_refusal(alloc, target.asking, renaming)
 }

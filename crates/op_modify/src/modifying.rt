@@ -1,8 +1,8 @@
 //! Modifies.
 
-ghost use Rattle.std.specs.Prelude.{◌≡◌, Some, Ok, IfOk, OnErr};
+ghost use Rattle.std.specs.Prelude.{◌≡◌, Ok, IfOk, OnErr};
 ghost use Rattle.dir_tree.specs.tree.Trees.{named_in};
-ghost use Rattle.dir_tree.specs.tree.Numbered.{entry_of, entries_of};
+ghost use Rattle.dir_tree.specs.tree.Numbered.{entries_of};
 ghost use Rattle.entry_changes.specs.Change.{changed_by};
 ghost use Rattle.op_add_delete.specs.adding.Updates.{IsChanged};
 ghost use Rattle.op_modify.specs.ReadChanges.{read_changes};
@@ -19,22 +19,20 @@ use dir_tree::{Entry, NoMemory};
 use entry_changes::{ChangeFault, EntryChange, change_entry};
 use ldap_msg::{Change, LdapResult, ModifyRequest, ResultCode};
 use op_add_delete::Fault;
-use op_add_delete::directory::{Asking, Dir, Target, find_target, hidden, read_named, result_of};
+use op_add_delete::directory::{Asking, Dir, Target, absent, hidden, read_named, result_of};
 use std::alloc::{AllocError, Global};
 
 // What comes of the entry that the changes leave.
 fn check_left<D: Dir>(
     alloc: Global,
-    asking: &Asking<'_, D>,
-    target: Target<'_>,
+    target: &Target<'_, '_, D>,
     left: Entry,
 ) -> Result<Checked, NoMemory>
-    requires found { entry_of target.number.0 (D.rows asking.now.dir.now) ≡ Some target.entry.now }
     ensures ok { IfOk result (λ checked. IsChecked
-        (modified_as (entries_of (D.rows asking.now.dir.now)) target.entry.entry.now (Ok left))
-        (D.rows asking.now.dir.now) checked) }
+        (modified_as (entries_of (D.rows target.now.asking.now.dir.now)) target.now.entry.now (Ok left))
+        (D.rows target.now.asking.now.dir.now) checked) }
 {
-    match rule_refusal(alloc, asking.dir.tree(), target, &left)? {
+    match rule_refusal(alloc, target, &left)? {
         Some(refusal) => Ok(Checked::Refused(refusal)),
         None => Ok(Checked::Allowed(target.number, left)),
     }
@@ -43,23 +41,19 @@ fn check_left<D: Dir>(
 // What comes of the changes of the target.
 fn check_changes<D: Dir>(
     alloc: Global,
-    asking: &Asking<'_, D>,
-    target: Target<'_>,
+    target: &Target<'_, '_, D>,
     changes: Vec<EntryChange>,
 ) -> Result<Checked, NoMemory>
-    requires found { entry_of target.number.0 (D.rows asking.now.dir.now) ≡ Some target.entry.now }
     ensures ok { IfOk result (λ checked. IsChecked
-        (modified_as (entries_of (D.rows asking.now.dir.now)) target.entry.entry.now
-        (changed_by (asker_of (entries_of (D.rows asking.now.dir.now)) asking.now.who.now target.entry.entry.now)
-        target.entry.entry.now changes.items))
-        (D.rows asking.now.dir.now) checked) }
+        (modified_as (entries_of (D.rows target.now.asking.now.dir.now)) target.now.entry.now
+        (changed_by (asker_of (entries_of (D.rows target.now.asking.now.dir.now)) target.now.asking.now.who.now
+        target.now.entry.now)
+        target.now.entry.now changes.items))
+        (D.rows target.now.asking.now.dir.now) checked) }
 {
-    let asker = TargetAsker {
-        asking,
-        number: target.number,
-    };
+    let asker = TargetAsker { target };
     match change_entry(alloc, &asker, target.entry, changes) {
-        Ok(left) => check_left(alloc, asking, target, left),
+        Ok(left) => check_left(alloc, target, left),
         Err(ChangeFault::Refused(code)) => Ok(Checked::Refused(result_of(alloc, code))),
         Err(ChangeFault::NoMemory) => Err(AllocError),
     }
@@ -77,13 +71,13 @@ fn check_target<D: Dir>(
         (named_in name.now (entries_of (D.rows asking.now.dir.now))))
         (D.rows asking.now.dir.now) checked) }
 {
-    let Some(target) = find_target(asking.dir.tree(), name) else {
-        return Ok(Checked::Refused(hidden(alloc, asking, name)?));
+    let Some(target) = asking.find(name) else {
+        return Ok(Checked::Refused(absent(alloc, asking, name)?));
     };
-    if !asking.allows(target, Item::Entry, Permission::Modify) {
-        return Ok(Checked::Refused(hidden(alloc, asking, name)?));
+    if !target.allows(Item::Entry, Permission::Modify) {
+        return Ok(Checked::Refused(hidden(alloc, &target, name)?));
     }
-    check_changes(alloc, asking, target, changes)
+    check_changes(alloc, &target, changes)
 }
 
 // The same of a directory that isn't asked yet.
@@ -99,12 +93,7 @@ fn check_modify<D: Dir>(
         (named_in name.now (entries_of (D.rows dir.now))))
         (D.rows dir.now) checked) }
 {
-    let known = dir.memberships(alloc, who)?;
-    let asking = Asking {
-        dir,
-        who,
-        known: &known,
-    };
+    let asking = Asking::new(alloc, dir, who)?;
     check_target(alloc, &asking, name, changes)
 }
 

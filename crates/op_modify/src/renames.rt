@@ -2,7 +2,7 @@
 
 ghost use Rattle.std.specs.Prelude.{◌≡◌, ◌++◌, Some, None, IfOk, OnErr};
 ghost use Rattle.dir_tree.specs.tree.Trees.{named_in};
-ghost use Rattle.dir_tree.specs.tree.Numbered.{entry_of, entries_of};
+ghost use Rattle.dir_tree.specs.tree.Numbered.{entries_of};
 ghost use Rattle.ldap_msg.specs.plain_values.Refusals.{first_some};
 ghost use Rattle.entry_changes.specs.Renaming.{renamed_entry};
 ghost use Rattle.op_add_delete.specs.adding.Updates.{IsChanged};
@@ -18,7 +18,7 @@ use dir_tree::dn_names::{Dn, join};
 use dir_tree::{Entry, NoMemory, Tree};
 use entry_changes::rename_entry;
 use ldap_msg::{LdapResult, RenameRequest, ResultCode};
-use op_add_delete::directory::{Asking, Dir, Target, find_target, hidden, result_of};
+use op_add_delete::directory::{Asking, Dir, Target, absent, result_of};
 use std::alloc::{AllocError, Global};
 
 // The RDNs of the superior, and then the new one. As another name may stand below the
@@ -59,20 +59,18 @@ fn renamed_entry(
 // What comes of the renamed entry's rows.
 fn check_place<D: Dir>(
     alloc: Global,
-    asking: &Asking<'_, D>,
+    target: &Target<'_, '_, D>,
     renaming: &Renaming,
-    target: Target<'_>,
     entry: Entry,
 ) -> Result<Checked, NoMemory>
-    requires found { entry_of target.number.0 (D.rows asking.now.dir.now) ≡ Some target.entry.now }
-    requires free { first_some (leaving_rows (entries_of (D.rows asking.now.dir.now)) asking.now.who.now renaming.now
-        target.entry.now) ≡ None }
+    requires free { first_some (leaving_rows (entries_of (D.rows target.now.asking.now.dir.now))
+        target.now.asking.now.who.now renaming.now target.now.entry.now) ≡ None }
     ensures ok { IfOk result (λ checked. IsChecked
-        (renamed_as (entries_of (D.rows asking.now.dir.now)) asking.now.who.now renaming.now target.entry.entry.now
-        entry)
-        (D.rows asking.now.dir.now) checked) }
+        (renamed_as (entries_of (D.rows target.now.asking.now.dir.now)) target.now.asking.now.who.now renaming.now
+        target.now.entry.now entry)
+        (D.rows target.now.asking.now.dir.now) checked) }
 {
-    match coming_refusal(alloc, asking, renaming, target, &entry)? {
+    match coming_refusal(alloc, target, renaming, &entry)? {
         Some(refusal) => Ok(Checked::Refused(refusal)),
         None => Ok(Checked::Allowed(target.number, entry)),
     }
@@ -81,21 +79,21 @@ fn check_place<D: Dir>(
 // What comes of the table, by the target.
 fn check_table<D: Dir>(
     alloc: Global,
-    asking: &Asking<'_, D>,
+    target: &Target<'_, '_, D>,
     renaming: &Renaming,
-    target: Target<'_>,
 ) -> Result<Checked, NoMemory>
-    requires found { entry_of target.number.0 (D.rows asking.now.dir.now) ≡ Some target.entry.now }
+    requires named { named_in renaming.now.name (entries_of (D.rows target.now.asking.now.dir.now))
+        ≡ Some target.now.entry.now }
     ensures ok { IfOk result (λ checked. IsChecked
-        (renamed_target (entries_of (D.rows asking.now.dir.now)) asking.now.who.now renaming.now
-        (Some target.entry.entry.now))
-        (D.rows asking.now.dir.now) checked) }
+        (renamed_target (entries_of (D.rows target.now.asking.now.dir.now)) target.now.asking.now.who.now renaming.now
+        (Some target.now.entry.now))
+        (D.rows target.now.asking.now.dir.now) checked) }
 {
-    match leaving_refusal(alloc, asking, renaming, target)? {
+    match leaving_refusal(alloc, target, renaming)? {
         Some(refusal) => Ok(Checked::Refused(refusal)),
         None => {
-            let entry = renamed_entry(alloc, asking.dir.tree(), target.entry, renaming)?;
-            check_place(alloc, asking, renaming, target, entry)
+            let entry = renamed_entry(alloc, target.asking.dir.tree(), target.entry, renaming)?;
+            check_place(alloc, target, renaming, entry)
         }
     }
 }
@@ -111,9 +109,9 @@ fn check_target<D: Dir>(
         (named_in renaming.now.name (entries_of (D.rows asking.now.dir.now))))
         (D.rows asking.now.dir.now) checked) }
 {
-    match find_target(asking.dir.tree(), &renaming.name) {
-        Some(target) => check_table(alloc, asking, renaming, target),
-        None => Ok(Checked::Refused(hidden(alloc, asking, &renaming.name)?)),
+    match asking.find(&renaming.name) {
+        Some(target) => check_table(alloc, &target, renaming),
+        None => Ok(Checked::Refused(absent(alloc, asking, &renaming.name)?)),
     }
 }
 
@@ -129,12 +127,7 @@ fn check_rename<D: Dir>(
         (named_in renaming.now.name (entries_of (D.rows dir.now))))
         (D.rows dir.now) checked) }
 {
-    let known = dir.memberships(alloc, who)?;
-    let asking = Asking {
-        dir,
-        who,
-        known: &known,
-    };
+    let asking = Asking::new(alloc, dir, who)?;
     check_target(alloc, &asking, renaming)
 }
 

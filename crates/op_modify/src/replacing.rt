@@ -9,7 +9,7 @@ ghost use Rattle.op_add_delete.specs.adding.Adding.{rule_refusal};
 ghost use Rattle.op_add_delete.specs.adding.Updates.{Changed, IsChanged};
 ghost use Rattle.op_modify.specs.Steps.{IsChecked};
 
-use dir_tree::{Entry, EntryNo, NoMemory, Tree};
+use dir_tree::{Entry, EntryNo, NoMemory};
 use ldap_msg::LdapResult;
 use op_add_delete::directory::{Dir, Target, result_numbered};
 use op_add_delete::schema_rules::{Broken, check_entry};
@@ -25,16 +25,15 @@ pub(crate) enum Checked {
 }
 
 /// The refusal where the entry breaks a rule in the target's place. The error comes where memory is wanted.
-pub(crate) fn rule_refusal(
+pub(crate) fn rule_refusal<D: Dir>(
     alloc: Global,
-    tree: &Tree,
-    target: Target<'_>,
+    target: &Target<'_, '_, D>,
     entry: &Entry,
 ) -> Result<Option<LdapResult>, NoMemory>
-    requires found { entry_of target.number.0 tree.now ≡ Some target.entry.now }
-    ensures ok { IfOk result (λ refusal. refusal ≡ rule_refusal (broken_rule (Some target.entry.entry.now)
-        (taken_out target.entry.entry.now.name (entries_of tree.now)) entry.now)) }
+    ensures ok { IfOk result (λ refusal. refusal ≡ rule_refusal (broken_rule (Some target.now.entry.now)
+        (taken_out target.now.entry.now.name (entries_of (D.rows target.now.asking.now.dir.now))) entry.now)) }
 {
+    let tree = target.asking.dir.tree();
     tree.entries_form_a_tree();
     match check_entry(alloc, tree, Some(target.number), entry) {
         Ok(()) => Ok(None),

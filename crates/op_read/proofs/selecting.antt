@@ -1,1 +1,4 @@
+pub mod ListLemmas
+pub mod NameLemmas
+pub mod SeenLemmas
 pub mod SelectingLemmas

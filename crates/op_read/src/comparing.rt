@@ -1,9 +1,10 @@
 //! Compares.
 
-ghost use Rattle.std.specs.Prelude.{◌≡◌, ◌&&◌, Some, None, IfOk, filter, []};
+ghost use Rattle.std.specs.Prelude.{◌≡◌, ◌&&◌, Some, IfOk, filter};
 ghost use Rattle.std.specs.Str.{bytes_eq};
 ghost use Rattle.dir_tree.specs.schema_tables.Attributes.{IsAttrId, attr_of};
 ghost use Rattle.dir_tree.specs.dn_names.NameValues.{value_of};
+ghost use Rattle.dir_tree.specs.tree.Trees.{named_in};
 ghost use Rattle.dir_tree.specs.tree.Numbered.{entries_of};
 ghost use Rattle.acdf_filters.specs.Asking as protected;
 ghost use Rattle.acdf_filters.specs.aci_item.declared.permission.Permission.TheVariants as permission;
@@ -11,106 +12,103 @@ ghost use Rattle.page_core.specs.read_model.Views.{view_of, result_of};
 ghost use Rattle.page_core.specs.read_model.CompareReplies.{has_equal, compared, readable, compared_in, compared_value, compared_kind, compare_result};
 ghost use Rattle.directory.specs.Asking.{view_in};
 ghost use Rattle.op_read.specs.Alike.{ComparesAlike};
-ghost use Rattle.op_read.specs.Seeing.{row_in, rows_at};
+ghost use Rattle.op_read.specs.Seeing.{row_in};
 
-use crate::seen::Seen;
 use acdf_filters::aci_item::Permission;
 use acdf_filters::{Item, Requester};
+use dir_tree::NoMemory;
 use dir_tree::dn_names::{Dn, Value, make_value};
 use dir_tree::match_rules::PrepareFault;
 use dir_tree::schema_tables::{AttrId, attr_named};
-use dir_tree::{EntryNo, NoMemory};
-use directory::{Asking, Dir, find_target, hidden, read_named, result_of};
+use directory::{Asking, Dir, Target, absent, hidden, read_named, result_of};
 use ldap_msg::{CompareRequest, LdapResult, ResultCode};
 use std::alloc::{AllocError, Global};
 
 // Whether the value is the one asserted, and may be compared; the decision is taken last.
-fn is_equal<D: Dir>(seen: &Seen<'_, D>, kind: AttrId, asserted: &Value, value: &Value) -> bool
+fn is_equal<D: Dir>(
+    target: &Target<'_, '_, D>,
+    kind: AttrId,
+    asserted: &Value,
+    value: &Value,
+) -> bool
     ensures exact { result ≡ (bytes_eq asserted.now.key value.now.key
-        && (row_in (D.rows seen.now.dir.now) seen.now.who.now seen.now.entry.now).allows
+        && (row_in (D.rows target.now.asking.now.dir.now) target.now.asking.now.who.now target.now.entry.now).allows
         (protected.Value kind.0 value.now) permission.Compare) }
 {
-    asserted.key() == value.key() && seen.allows(Item::Value(kind, value), Permission::Compare)
+    asserted.key() == value.key() && target.allows(Item::Value(kind, value), Permission::Compare)
 }
 
 // Whether the entry has a value that is the one asserted, and may be compared.
-fn has_equal<D: Dir>(seen: &Seen<'_, D>, kind: AttrId, asserted: &Value) -> bool
+fn has_equal<D: Dir>(target: &Target<'_, '_, D>, kind: AttrId, asserted: &Value) -> bool
     ensures exact { result ≡ has_equal kind.0 asserted.now
-        (row_in (D.rows seen.now.dir.now) seen.now.who.now seen.now.entry.now) }
+        (row_in (D.rows target.now.asking.now.dir.now) target.now.asking.now.who.now target.now.entry.now) }
 {
-    seen.entry
+    target
+        .entry
         .values(kind)
         .iter()
-        .any(|value| is_equal(seen, kind, asserted, value))
+        .any(|value| is_equal(target, kind, asserted, value))
 }
 
 // How the compare of the entry ends.
-fn compared<D: Dir>(seen: &Seen<'_, D>, kind: AttrId, asserted: &Value) -> ResultCode
+fn compared<D: Dir>(target: &Target<'_, '_, D>, kind: AttrId, asserted: &Value) -> ResultCode
     ensures exact { result_of result ≡ compared kind.0 asserted.now
-        (row_in (D.rows seen.now.dir.now) seen.now.who.now seen.now.entry.now) }
+        (row_in (D.rows target.now.asking.now.dir.now) target.now.asking.now.who.now target.now.entry.now) }
 {
-    if !seen.allows(Item::Kind(kind), Permission::Compare) {
-        if seen.allows(Item::Kind(kind), Permission::DiscloseOnError) {
+    if !target.allows(Item::Kind(kind), Permission::Compare) {
+        if target.allows(Item::Kind(kind), Permission::DiscloseOnError) {
             ResultCode::InsufficientAccessRights
         } else {
             ResultCode::NoSuchAttribute
         }
-    } else if !seen.entry.has_kind(kind) {
+    } else if !target.entry.has_kind(kind) {
         ResultCode::NoSuchAttribute
-    } else if has_equal(seen, kind, asserted) {
+    } else if has_equal(target, kind, asserted) {
         ResultCode::CompareTrue
     } else {
         ResultCode::CompareFalse
     }
 }
 
-// The entry of the name, if it may be read.
-fn find_readable<D: Dir>(asking: &Asking<'_, D>, name: &Dn) -> Option<EntryNo>
-    ensures exact { filter (readable name.now) (view_in (D.rows asking.now.dir.now) asking.now.who.now)
-        ≡ rows_at (D.rows asking.now.dir.now) asking.now.who.now result }
+// The compare of the target, which has the name: that is hidden, unless the target may be read.
+fn compare_target<D: Dir>(
+    alloc: Global,
+    target: &Target<'_, '_, D>,
+    name: &Dn,
+    kind: AttrId,
+    asserted: &Value,
+) -> Result<LdapResult, NoMemory>
+    requires named { named_in name.now (entries_of (D.rows target.now.asking.now.dir.now))
+        ≡ Some target.now.entry.now }
+    ensures ok { IfOk result (λ ended. ended
+        ≡ compared_in (view_in (D.rows target.now.asking.now.dir.now) target.now.asking.now.who.now)
+        name.now kind.0 asserted.now
+        (filter (readable name.now) (view_in (D.rows target.now.asking.now.dir.now) target.now.asking.now.who.now))) }
 {
-    let tree = asking.dir.tree();
-    tree.entries_form_a_tree();
-    match find_target(tree, name) {
-        Some(target) => {
-            if asking.allows(target, Item::Entry, Permission::Read) {
-                Some(target.number)
-            } else {
-                None
-            }
-        }
-        None => None,
+    target.asking.dir.tree().entries_form_a_tree();
+    if target.allows(Item::Entry, Permission::Read) {
+        Ok(result_of(alloc, compared(target, kind, asserted)))
+    } else {
+        hidden(alloc, target, name)
     }
 }
 
-// The same of the entry of the number, if there is one: the name is hidden where there is none.
-fn compare_at<D: Dir>(
+// The same of the entry of the name, if there is one.
+fn compare_found<D: Dir>(
     alloc: Global,
     asking: &Asking<'_, D>,
     name: &Dn,
     kind: AttrId,
     asserted: &Value,
-    number: Option<EntryNo>,
 ) -> Result<LdapResult, NoMemory>
     ensures ok { IfOk result (λ ended. ended
-        ≡ compared_in (view_in (D.rows asking.now.dir.now) asking.now.who.now)
-        name.now kind.0 asserted.now (rows_at (D.rows asking.now.dir.now) asking.now.who.now number)) }
+        ≡ compared_in (view_in (D.rows asking.now.dir.now) asking.now.who.now) name.now kind.0 asserted.now
+        (filter (readable name.now) (view_in (D.rows asking.now.dir.now) asking.now.who.now))) }
 {
-    let Some(number) = number else {
-        return hidden(alloc, asking, name);
-    };
-    match asking.dir.tree().at(number) {
-        Some(entry) => {
-            let seen = Seen {
-                dir: asking.dir,
-                who: asking.who,
-                known: asking.known,
-                number,
-                entry,
-            };
-            Ok(result_of(alloc, compared(&seen, kind, asserted)))
-        }
-        None => hidden(alloc, asking, name),
+    asking.dir.tree().entries_form_a_tree();
+    match asking.find(name) {
+        Some(target) => compare_target(alloc, &target, name, kind, asserted),
+        None => absent(alloc, asking, name),
     }
 }
 
@@ -129,8 +127,7 @@ fn compare_entry<D: Dir>(
     if name.len() == 0 {
         return Ok(result_of(alloc, ResultCode::UnwillingToPerform));
     }
-    let number = find_readable(asking, name);
-    compare_at(alloc, asking, name, kind, asserted, number)
+    compare_found(alloc, asking, name, kind, asserted)
 }
 
 // The value of a type; None where the octets are not of its syntax.
@@ -207,12 +204,7 @@ fn compare_over<D: Dir>(
     ensures ok { IfOk result (λ found. found
         ≡ compare_result (view_of (entries_of (D.rows dir.now)) who.now) request.now) }
 {
-    let known = dir.memberships(alloc, who)?;
-    let asking = Asking {
-        dir,
-        who,
-        known: &known,
-    };
+    let asking = Asking::new(alloc, dir, who)?;
     compare_known(alloc, &asking, request)
 }
 

@@ -8,7 +8,6 @@ mod comparing;
 mod paging;
 mod root_entry;
 mod searching;
-mod seen;
 mod selecting;
 mod sending;
 mod writing;

@@ -20,14 +20,14 @@ ghost use Rattle.op_read.specs.Sending.{is_filled, shown_at, shown_among, entry_
 
 use crate::candidates::{Candidates, candidates_after};
 use crate::choosing::{Selection, read_choices};
-use crate::searching::{Asked, put_hidden, put_known, put_root_replies};
-use crate::seen::Seen;
+use crate::searching::{Asked, put_absent, put_known, put_root_replies};
 use crate::selecting::{walk_after, walk_from};
-use crate::sending::{Found, Search, discloses_at, is_shown, put_done, put_found};
-use acdf_filters::Requester;
+use crate::sending::{Found, Search, is_shown, put_done, put_found};
+use acdf_filters::aci_item::Permission;
+use acdf_filters::{Item, Requester};
 use dir_tree::dn_names::Dn;
 use dir_tree::{EntryNo, NoMemory};
-use directory::{Asking, Dir, no_such_object, printed, read_named, result_of};
+use directory::{Asking, Dir, Target, no_such_object, printed, read_named, result_of};
 use ldap_msg::plain_values::Octets;
 use ldap_msg::{ResultCode, SearchRequest};
 use page_core::read_model::filter_match::prepare_filter;
@@ -74,17 +74,8 @@ fn is_shown_at<D: Dir>(asking: &Asking<'_, D>, search: &Search<'_>, number: Entr
     ensures exact { result ≡ is_filled (shown_at (is_shown search.now.request.now search.now.subentries)
         (D.rows asking.now.dir.now) asking.now.who.now number.0) }
 {
-    match asking.dir.tree().at(number) {
-        Some(entry) => {
-            let seen = Seen {
-                dir: asking.dir,
-                who: asking.who,
-                known: asking.known,
-                number,
-                entry,
-            };
-            is_shown(search, &seen)
-        }
+    match asking.at(number) {
+        Some(target) => is_shown(search, &target),
         None => false,
     }
 }
@@ -105,37 +96,37 @@ fn is_any_shown<D: Dir>(asking: &Asking<'_, D>, search: &Search<'_>, number: Ent
 
 // Whether the whole search succeeds, where no entry is behind the name. An entry is looked for only where the base is
 // hidden.
-fn is_done<D: Dir>(asking: &Asking<'_, D>, search: &Search<'_>, base: &Dn, number: EntryNo) -> bool
-    requires tree { IsNumberedTree (D.rows asking.now.dir.now) }
-    requires found { find_name base.now (D.rows asking.now.dir.now) ≡ Some number.0 }
-    ensures exact { result ≡ is_done (view_in (D.rows asking.now.dir.now) asking.now.who.now)
-        (selected (view_in (D.rows asking.now.dir.now) asking.now.who.now) search.now.request.now
+fn is_done<D: Dir>(search: &Search<'_>, target: &Target<'_, '_, D>, base: &Dn) -> bool
+    requires tree { IsNumberedTree (D.rows target.now.asking.now.dir.now) }
+    requires found { find_name base.now (D.rows target.now.asking.now.dir.now) ≡ Some target.now.number.0 }
+    ensures exact { result ≡ is_done (view_in (D.rows target.now.asking.now.dir.now) target.now.asking.now.who.now)
+        (selected (view_in (D.rows target.now.asking.now.dir.now) target.now.asking.now.who.now) search.now.request.now
         search.now.subentries base.now) base.now }
 {
-    discloses_at(asking, number) || is_any_shown(asking, search, number)
+    target.allows(Item::Entry, Permission::DiscloseOnError)
+        || is_any_shown(target.asking, search, target.number)
 }
 
 // Appends how a page ends behind whose name no entry is.
 fn put_none<D: Dir>(
     alloc: Global,
-    asking: &Asking<'_, D>,
     search: &Search<'_>,
+    target: &Target<'_, '_, D>,
     base: &Dn,
-    number: EntryNo,
     out: &mut Vec<u8>,
 ) -> Result<(), NoMemory>
-    requires tree { IsNumberedTree (D.rows asking.now.dir.now) }
-    requires found { find_name base.now (D.rows asking.now.dir.now) ≡ Some number.0 }
+    requires tree { IsNumberedTree (D.rows target.now.asking.now.dir.now) }
+    requires found { find_name base.now (D.rows target.now.asking.now.dir.now) ≡ Some target.now.number.0 }
     ensures ok { OnOk result (out.new.items ≡ out.old.items ++ paged_octets search.now.id
-        (page_of_none (view_in (D.rows asking.now.dir.now) asking.now.who.now)
-        (selected (view_in (D.rows asking.now.dir.now) asking.now.who.now) search.now.request.now
+        (page_of_none (view_in (D.rows target.now.asking.now.dir.now) target.now.asking.now.who.now)
+        (selected (view_in (D.rows target.now.asking.now.dir.now) target.now.asking.now.who.now) search.now.request.now
         search.now.subentries base.now) base.now)) }
     ensures kept { Extends out.old.items out.new.items }
 {
-    if is_done(asking, search, base, number) {
+    if is_done(search, target, base) {
         return put_page_end(out, search.id, &[]);
     }
-    let ended = no_such_object(alloc, asking, base)?;
+    let ended = no_such_object(alloc, target.asking, base)?;
     put_done(search.id, ended, out)
 }
 
@@ -188,77 +179,76 @@ fn put_more<D: Dir>(
 // Appends how a page ends, by what was found for it.
 fn put_ending<D: Dir>(
     alloc: Global,
-    asking: &Asking<'_, D>,
     search: &Search<'_>,
+    target: &Target<'_, '_, D>,
     base: &Dn,
-    number: EntryNo,
     found: Found,
     out: &mut Vec<u8>,
 ) -> Result<(), NoMemory>
-    requires tree { IsNumberedTree (D.rows asking.now.dir.now) }
-    requires found { find_name base.now (D.rows asking.now.dir.now) ≡ Some number.0 }
+    requires tree { IsNumberedTree (D.rows target.now.asking.now.dir.now) }
+    requires found { find_name base.now (D.rows target.now.asking.now.dir.now) ≡ Some target.now.number.0 }
     ensures ok { OnOk result (out.new.items ≡ out.old.items ++ page_ending
-        (rows_at (D.rows asking.now.dir.now) asking.now.who.now) search.now.id
-        (view_in (D.rows asking.now.dir.now) asking.now.who.now)
-        (selected (view_in (D.rows asking.now.dir.now) asking.now.who.now) search.now.request.now
+        (rows_at (D.rows target.now.asking.now.dir.now) target.now.asking.now.who.now) search.now.id
+        (view_in (D.rows target.now.asking.now.dir.now) target.now.asking.now.who.now)
+        (selected (view_in (D.rows target.now.asking.now.dir.now) target.now.asking.now.who.now) search.now.request.now
         search.now.subentries base.now) base.now found) }
     ensures kept { Extends out.old.items out.new.items }
 {
     match found {
-        Found::Nothing => put_none(alloc, asking, search, base, number, out),
+        Found::Nothing => put_none(alloc, search, target, base, out),
         Found::Some => put_page_end(out, search.id, &[]),
-        Found::TooMany(last) => put_more(alloc, asking, search.id, last, out),
+        Found::TooMany(last) => put_more(alloc, target.asking, search.id, last, out),
     }
 }
 
-// Sends the entries of the scope that are selected and come after the name, from the entry of the number on, which has the
-// name of the base. Where the holders of a value that the filter needs are known, they alone are looked at.
+// Sends the entries of the scope that are selected and come after the name, from the target on, which has the name of the
+// base. Where the holders of a value that the filter needs are known, they alone are looked at.
 fn put_behind<D: Dir>(
     alloc: Global,
-    asking: &Asking<'_, D>,
     search: &Search<'_>,
+    target: &Target<'_, '_, D>,
     start: Start<'_>,
-    number: EntryNo,
     out: &mut Vec<u8>,
 ) -> Result<Found, NoMemory>
-    requires tree { IsNumberedTree (D.rows asking.now.dir.now) }
-    requires found { find_name start.base.now (D.rows asking.now.dir.now) ≡ Some number.0 }
-    ensures ok { IfOk result (λ found. IsSent (rows_at (D.rows asking.now.dir.now) asking.now.who.now)
+    requires tree { IsNumberedTree (D.rows target.now.asking.now.dir.now) }
+    requires found { find_name start.base.now (D.rows target.now.asking.now.dir.now) ≡ Some target.now.number.0 }
+    ensures ok { IfOk result (λ found. IsSent
+        (rows_at (D.rows target.now.asking.now.dir.now) target.now.asking.now.who.now)
         search.now.limit (entry_octets search.now.id search.now.request.now)
         (filter (is_after start.entry.after.now)
-        (selected (view_in (D.rows asking.now.dir.now) asking.now.who.now) search.now.request.now
+        (selected (view_in (D.rows target.now.asking.now.dir.now) target.now.asking.now.who.now) search.now.request.now
         search.now.subentries start.entry.base.now))
         out.old.items out.new.items found) }
     ensures kept { Extends out.old.items out.new.items }
 {
-    match candidates_after(alloc, asking, search, number, start.after) {
+    let asking = target.asking;
+    match candidates_after(alloc, asking, search, target.number, start.after) {
         Some(numbers) => put_found(alloc, asking, search, Candidates::of_list(&numbers), out),
         None => {
-            let walk = walk_after(asking, search.request.scope, number, start.after);
+            let walk = walk_after(asking, search.request.scope, target.number, start.after);
             put_found(alloc, asking, search, Candidates::of_walk(walk), out)
         }
     }
 }
 
-// Appends a page of a search from the entry of the number on, which has the name of the base.
+// Appends a page of a search from the target on, which has the name of the base.
 fn put_page_selected<D: Dir>(
     alloc: Global,
-    asking: &Asking<'_, D>,
     search: &Search<'_>,
+    target: &Target<'_, '_, D>,
     start: Start<'_>,
-    number: EntryNo,
     out: &mut Vec<u8>,
 ) -> Result<(), NoMemory>
-    requires tree { IsNumberedTree (D.rows asking.now.dir.now) }
-    requires found { find_name start.base.now (D.rows asking.now.dir.now) ≡ Some number.0 }
+    requires tree { IsNumberedTree (D.rows target.now.asking.now.dir.now) }
+    requires found { find_name start.base.now (D.rows target.now.asking.now.dir.now) ≡ Some target.now.number.0 }
     requires limit { search.now.limit ≢ 0 }
     ensures ok { OnOk result (out.new.items ≡ out.old.items ++ paged_octets search.now.id
-        (page_at (view_in (D.rows asking.now.dir.now) asking.now.who.now) search.now.request.now
+        (page_at (view_in (D.rows target.now.asking.now.dir.now) target.now.asking.now.who.now) search.now.request.now
         search.now.subentries start.entry.base.now search.now.limit start.entry.after.now)) }
     ensures kept { Extends out.old.items out.new.items }
 {
-    let found = put_behind(alloc, asking, search, start, number, out)?;
-    put_ending(alloc, asking, search, start.base, number, found, out)
+    let found = put_behind(alloc, search, target, start, out)?;
+    put_ending(alloc, search, target, start.base, found, out)
 }
 
 // Appends a page of a search of a name.
@@ -275,11 +265,10 @@ fn put_page_at<D: Dir>(
         search.now.subentries start.entry.base.now search.now.limit start.entry.after.now)) }
     ensures kept { Extends out.old.items out.new.items }
 {
-    let tree = asking.dir.tree();
-    tree.entries_form_a_tree();
-    match tree.find(start.base) {
-        Some(number) => put_page_selected(alloc, asking, search, start, number, out),
-        None => put_hidden(alloc, asking, search.id, start.base, out),
+    asking.dir.tree().entries_form_a_tree();
+    match asking.find(start.base) {
+        Some(target) => put_page_selected(alloc, search, &target, start, out),
+        None => put_absent(alloc, asking, search.id, start.base, out),
     }
 }
 
@@ -437,12 +426,7 @@ fn put_page<D: Dir>(
         asked.entry.subentries page.now)) }
     ensures kept { Extends out.old.items out.new.items }
 {
-    let known = dir.memberships(alloc, who)?;
-    let asking = Asking {
-        dir,
-        who,
-        known: &known,
-    };
+    let asking = Asking::new(alloc, dir, who)?;
     put_page_known(alloc, &asking, asked, page, out)
 }
 

@@ -1,7 +1,8 @@
 //! Searches.
 
-ghost use Rattle.std.specs.Prelude.{◌≡◌, ◌++◌, ◌∷◌, [], Some, Ok, IfOk, OnOk, OnErr, if◌then◌else◌};
+ghost use Rattle.std.specs.Prelude.{◌≡◌, ◌++◌, ◌∷◌, [], Some, None, Ok, IfOk, OnOk, OnErr, if◌then◌else◌};
 ghost use Rattle.dir_tree.specs.Scope.{scoped};
+ghost use Rattle.dir_tree.specs.tree.Trees.{named_in};
 ghost use Rattle.dir_tree.specs.tree.Numbered.{IsNumberedTree, entries_of, find_name};
 ghost use Rattle.ldap_msg.specs.ber_layout.Spellings.{Extends};
 ghost use Rattle.ldap_msg.specs.declared.kinds.Reply.TheVariants as reply;
@@ -22,7 +23,7 @@ use crate::sending::{Found, Search, ended_by, put_done, put_found};
 use acdf_filters::Requester;
 use dir_tree::dn_names::Dn;
 use dir_tree::{EntryNo, NoMemory};
-use directory::{Asking, Dir, hidden, read_named, result_of};
+use directory::{Asking, Dir, Target, absent, read_named, result_of};
 use ldap_msg::{ResultCode, SearchRequest, put_reply};
 use page_core::read_model::filter_match::prepare_filter;
 use std::alloc::Global;
@@ -63,43 +64,43 @@ fn put_scope<D: Dir>(
     }
 }
 
-// Appends the replies to a search from the entry of the number on, which has the name.
+// Appends the replies to a search from the target on, which has the name.
 fn put_selected<D: Dir>(
     alloc: Global,
-    asking: &Asking<'_, D>,
     search: &Search<'_>,
+    target: &Target<'_, '_, D>,
     base: &Dn,
-    number: EntryNo,
     out: &mut Vec<u8>,
 ) -> Result<(), NoMemory>
-    requires tree { IsNumberedTree (D.rows asking.now.dir.now) }
-    requires found { find_name base.now (D.rows asking.now.dir.now) ≡ Some number.0 }
+    requires tree { IsNumberedTree (D.rows target.now.asking.now.dir.now) }
+    requires found { find_name base.now (D.rows target.now.asking.now.dir.now) ≡ Some target.now.number.0 }
     requires limit { search.now.limit ≡ search.now.request.now.size }
     ensures ok { OnOk result (out.new.items ≡ out.old.items ++ replies_octets search.now.id
-        (found_replies (view_in (D.rows asking.now.dir.now) asking.now.who.now)
+        (found_replies (view_in (D.rows target.now.asking.now.dir.now) target.now.asking.now.who.now)
         search.now.request.now base.now
-        (selected (view_in (D.rows asking.now.dir.now) asking.now.who.now) search.now.request.now
+        (selected (view_in (D.rows target.now.asking.now.dir.now) target.now.asking.now.who.now) search.now.request.now
         search.now.subentries base.now))) }
     ensures kept { Extends out.old.items out.new.items }
 {
-    let found = put_scope(alloc, asking, search, number, out)?;
-    let ended = ended_by(alloc, asking, base, number, found)?;
+    let found = put_scope(alloc, target.asking, search, target.number, out)?;
+    let ended = ended_by(alloc, target, base, found)?;
     put_done(search.id, ended, out)
 }
 
-/// Appends that the base is hidden.
-pub(crate) fn put_hidden<D: Dir>(
+/// Appends what is answered where no entry has the name of the base.
+pub(crate) fn put_absent<D: Dir>(
     alloc: Global,
     asking: &Asking<'_, D>,
     id: u32,
     base: &Dn,
     out: &mut Vec<u8>,
 ) -> Result<(), NoMemory>
+    requires none { named_in base.now (entries_of (D.rows asking.now.dir.now)) ≡ None }
     ensures ok { OnOk result (out.new.items ≡ out.old.items ++ replies_octets id
         (reply.Done (hidden (view_in (D.rows asking.now.dir.now) asking.now.who.now) base.now) ∷ [])) }
     ensures kept { Extends out.old.items out.new.items }
 {
-    let ended = hidden(alloc, asking, base)?;
+    let ended = absent(alloc, asking, base)?;
     put_done(id, ended, out)
 }
 
@@ -117,11 +118,10 @@ fn put_at<D: Dir>(
         search.now.subentries base.now)) }
     ensures kept { Extends out.old.items out.new.items }
 {
-    let tree = asking.dir.tree();
-    tree.entries_form_a_tree();
-    match tree.find(base) {
-        Some(number) => put_selected(alloc, asking, search, base, number, out),
-        None => put_hidden(alloc, asking, search.id, base, out),
+    asking.dir.tree().entries_form_a_tree();
+    match asking.find(base) {
+        Some(target) => put_selected(alloc, search, &target, base, out),
+        None => put_absent(alloc, asking, search.id, base, out),
     }
 }
 
@@ -245,12 +245,7 @@ fn put_replies<D: Dir>(
         asked.entry.subentries)) }
     ensures kept { Extends out.old.items out.new.items }
 {
-    let known = dir.memberships(alloc, who)?;
-    let asking = Asking {
-        dir,
-        who,
-        known: &known,
-    };
+    let asking = Asking::new(alloc, dir, who)?;
     put_known(alloc, &asking, asked, out)
 }
 

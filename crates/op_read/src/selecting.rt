@@ -5,12 +5,11 @@ ghost use Rattle.dir_tree.specs.Scope.{scoped, scoped_after};
 ghost use Rattle.page_core.specs.read_model.Selecting.{is_seen, is_found};
 ghost use Rattle.op_read.specs.Seeing.{row_in, scope_of};
 
-use crate::seen::Seen;
 use acdf_filters::Item;
 use acdf_filters::aci_item::Permission;
 use dir_tree::dn_names::Dn;
 use dir_tree::{Entry, EntryNo, Scope, Walk};
-use directory::{Asking, Dir};
+use directory::{Asking, Dir, Target};
 use ldap_msg::SearchScope;
 use page_core::read_model::filter_match::{Prepared, is_true};
 
@@ -64,11 +63,11 @@ pub(crate) fn is_seen(scope: SearchScope, subentries: Option<bool>, entry: &Entr
 
 /// Whether the entry may be browsed, matches the filter, and its name may be returned. The filter works on no entry that may
 /// not be browsed, so that such an entry takes as long as its decision, whatever the filter.
-pub(crate) fn is_found<D: Dir>(filter: &Prepared<'_>, seen: &Seen<'_, D>) -> bool
+pub(crate) fn is_found<D: Dir>(filter: &Prepared<'_>, target: &Target<'_, '_, D>) -> bool
     ensures exact { result ≡ is_found filter.now
-        (row_in (D.rows seen.now.dir.now) seen.now.who.now seen.now.entry.now) }
+        (row_in (D.rows target.now.asking.now.dir.now) target.now.asking.now.who.now target.now.entry.now) }
 {
-    seen.allows(Item::Entry, Permission::Browse)
-        && is_true(filter, seen.entry, seen)
-        && seen.allows(Item::Entry, Permission::ReturnDn)
+    target.allows(Item::Entry, Permission::Browse)
+        && is_true(filter, target.entry, target)
+        && target.allows(Item::Entry, Permission::ReturnDn)
 }

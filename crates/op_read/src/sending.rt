@@ -5,18 +5,16 @@ ghost use Rattle.std.specs.List.{list_any};
 ghost use Rattle.dir_tree.specs.tree.Numbered.{IsNumberedTree, find_name};
 ghost use Rattle.ldap_msg.specs.ber_layout.Spellings.{Extends};
 ghost use Rattle.ldap_msg.specs.declared.kinds.Reply.TheVariants as reply;
-ghost use Rattle.page_core.specs.read_model.Views.{is_disclosed};
 ghost use Rattle.page_core.specs.read_model.Selecting.{is_shown};
 ghost use Rattle.page_core.specs.read_model.Choosing.{is_chosen};
 ghost use Rattle.page_core.specs.read_model.SearchReplies.{replies_octets, nothing_found};
 ghost use Rattle.directory.specs.Asking.{view_in};
 ghost use Rattle.op_read.specs.Choices.{chooses};
 ghost use Rattle.op_read.specs.Seeing.{row_in, rows_at};
-ghost use Rattle.op_read.specs.Sending.{is_filled, shown_at, shown_among, entry_octets, Goes, IsSent, ended_by};
+ghost use Rattle.op_read.specs.Sending.{shown_at, shown_among, entry_octets, Goes, IsSent, ended_by};
 
 use crate::candidates::Candidates;
 use crate::choosing::Selection;
-use crate::seen::Seen;
 use crate::selecting::{is_found, is_seen};
 use crate::writing::put_entry;
 use acdf_filters::Item;
@@ -76,37 +74,38 @@ pub(crate) fn put_done(id: u32, ended: LdapResult, out: &mut Vec<u8>) -> Result<
 }
 
 /// Whether the entry is selected, of those in the scope.
-pub(crate) fn is_shown<D: Dir>(search: &Search<'_>, seen: &Seen<'_, D>) -> bool
+pub(crate) fn is_shown<D: Dir>(search: &Search<'_>, target: &Target<'_, '_, D>) -> bool
     ensures exact { result ≡ is_shown search.now.request.now search.now.subentries
-        (row_in (D.rows seen.now.dir.now) seen.now.who.now seen.now.entry.now) }
+        (row_in (D.rows target.now.asking.now.dir.now) target.now.asking.now.who.now target.now.entry.now) }
 {
-    is_seen(search.request.scope, search.subentries, seen.entry) && is_found(search.filter, seen)
+    is_seen(search.request.scope, search.subentries, target.entry)
+        && is_found(search.filter, target)
 }
 
 // Sends the entry, which is selected, where there is room for it. Answers whether there was.
 fn send<D: Dir>(
     alloc: Global,
     search: &Search<'_>,
-    seen: &Seen<'_, D>,
+    target: &Target<'_, '_, D>,
     sent: &mut Sent,
     out: &mut Vec<u8>,
 ) -> Result<bool, NoMemory>
-    ensures ok { IfOk result (λ goes_on. Goes (rows_at (D.rows seen.now.dir.now) seen.now.who.now) search.now.limit
-        (entry_octets search.now.id search.now.request.now)
-        (row_in (D.rows seen.now.dir.now) seen.now.who.now seen.now.entry.now ∷ [])
+    ensures ok { IfOk result (λ goes_on. Goes (rows_at (D.rows target.now.asking.now.dir.now) target.now.asking.now.who.now)
+        search.now.limit (entry_octets search.now.id search.now.request.now)
+        (row_in (D.rows target.now.asking.now.dir.now) target.now.asking.now.who.now target.now.entry.now ∷ [])
         sent.old out.old.items sent.new out.new.items goes_on) }
     ensures kept { Extends out.old.items out.new.items }
 {
     if search.limit == 0 {
-        put_entry(alloc, search, seen, out)?;
-        sent.last = Some(seen.number);
+        put_entry(alloc, search, target, out)?;
+        sent.last = Some(target.number);
         return Ok(true);
     }
     if sent.room == 0 {
         return Ok(false);
     }
-    put_entry(alloc, search, seen, out)?;
-    sent.last = Some(seen.number);
+    put_entry(alloc, search, target, out)?;
+    sent.last = Some(target.number);
     sent.room -= 1;
     Ok(true)
 }
@@ -115,22 +114,22 @@ fn send<D: Dir>(
 fn offer<D: Dir>(
     alloc: Global,
     search: &Search<'_>,
-    seen: &Seen<'_, D>,
+    target: &Target<'_, '_, D>,
     sent: &mut Sent,
     out: &mut Vec<u8>,
 ) -> Result<bool, NoMemory>
-    ensures ok { IfOk result (λ goes_on. Goes (rows_at (D.rows seen.now.dir.now) seen.now.who.now) search.now.limit
-        (entry_octets search.now.id search.now.request.now)
+    ensures ok { IfOk result (λ goes_on. Goes (rows_at (D.rows target.now.asking.now.dir.now) target.now.asking.now.who.now)
+        search.now.limit (entry_octets search.now.id search.now.request.now)
         (filter (is_shown search.now.request.now search.now.subentries)
-        (row_in (D.rows seen.now.dir.now) seen.now.who.now seen.now.entry.now ∷ []))
+        (row_in (D.rows target.now.asking.now.dir.now) target.now.asking.now.who.now target.now.entry.now ∷ []))
         sent.old out.old.items sent.new out.new.items goes_on) }
     ensures kept { Extends out.old.items out.new.items }
 {
     if out.len() > search.room {
         return Err(AllocError);
     }
-    if is_shown(search, seen) {
-        send(alloc, search, seen, sent, out)
+    if is_shown(search, target) {
+        send(alloc, search, target, sent, out)
     } else {
         Ok(true)
     }
@@ -152,17 +151,8 @@ fn offer_at<D: Dir>(
         sent.old out.old.items sent.new out.new.items goes_on) }
     ensures kept { Extends out.old.items out.new.items }
 {
-    match asking.dir.tree().at(number) {
-        Some(entry) => {
-            let seen = Seen {
-                dir: asking.dir,
-                who: asking.who,
-                known: asking.known,
-                number,
-                entry,
-            };
-            offer(alloc, search, &seen, sent, out)
-        }
+    match asking.at(number) {
+        Some(target) => offer(alloc, search, &target, sent, out),
         None => Ok(true),
     }
 }
@@ -199,55 +189,39 @@ pub(crate) fn put_found<D: Dir>(
     }
 }
 
-/// Whether the requester may know of the entry of the number, if there is one.
-pub(crate) fn discloses_at<D: Dir>(asking: &Asking<'_, D>, number: EntryNo) -> bool
-    ensures exact { result ≡ is_filled (shown_at is_disclosed (D.rows asking.now.dir.now)
-        asking.now.who.now number.0) }
-{
-    match asking.dir.tree().at(number) {
-        Some(entry) => {
-            let target = Target { number, entry };
-            asking.allows(target, Item::Entry, Permission::DiscloseOnError)
-        }
-        None => false,
-    }
-}
-
-// How the search ends that selects nothing, from the entry of the number on, which has the name of the base.
+// How the search ends that selects nothing from the target on, which has the name of the base.
 fn nothing_found<D: Dir>(
     alloc: Global,
-    asking: &Asking<'_, D>,
+    target: &Target<'_, '_, D>,
     base: &Dn,
-    number: EntryNo,
 ) -> Result<LdapResult, NoMemory>
-    requires tree { IsNumberedTree (D.rows asking.now.dir.now) }
-    requires found { find_name base.now (D.rows asking.now.dir.now) ≡ Some number.0 }
-    ensures ok { IfOk result (λ ended.
-        ended ≡ nothing_found (view_in (D.rows asking.now.dir.now) asking.now.who.now) base.now) }
+    requires tree { IsNumberedTree (D.rows target.now.asking.now.dir.now) }
+    requires found { find_name base.now (D.rows target.now.asking.now.dir.now) ≡ Some target.now.number.0 }
+    ensures ok { IfOk result (λ ended. ended
+        ≡ nothing_found (view_in (D.rows target.now.asking.now.dir.now) target.now.asking.now.who.now) base.now) }
 {
-    if discloses_at(asking, number) {
+    if target.allows(Item::Entry, Permission::DiscloseOnError) {
         Ok(result_of(alloc, ResultCode::Success))
     } else {
-        no_such_object(alloc, asking, base)
+        no_such_object(alloc, target.asking, base)
     }
 }
 
-/// How the search ends, by what it has found from the entry of the number on, which has the name of the base. The error
-/// comes where memory is wanted.
+/// How the search ends, by what it has found from the target on, which has the name of the base. The error comes where
+/// memory is wanted.
 pub(crate) fn ended_by<D: Dir>(
     alloc: Global,
-    asking: &Asking<'_, D>,
+    target: &Target<'_, '_, D>,
     base: &Dn,
-    number: EntryNo,
     found: Found,
 ) -> Result<LdapResult, NoMemory>
-    requires tree { IsNumberedTree (D.rows asking.now.dir.now) }
-    requires found { find_name base.now (D.rows asking.now.dir.now) ≡ Some number.0 }
-    ensures ok { IfOk result (λ ended.
-        ended ≡ ended_by (view_in (D.rows asking.now.dir.now) asking.now.who.now) base.now found) }
+    requires tree { IsNumberedTree (D.rows target.now.asking.now.dir.now) }
+    requires found { find_name base.now (D.rows target.now.asking.now.dir.now) ≡ Some target.now.number.0 }
+    ensures ok { IfOk result (λ ended. ended
+        ≡ ended_by (view_in (D.rows target.now.asking.now.dir.now) target.now.asking.now.who.now) base.now found) }
 {
     match found {
-        Found::Nothing => nothing_found(alloc, asking, base, number),
+        Found::Nothing => nothing_found(alloc, target, base),
         Found::Some => Ok(result_of(alloc, ResultCode::Success)),
         Found::TooMany(_) => Ok(result_of(alloc, ResultCode::SizeLimitExceeded)),
     }

@@ -15,14 +15,13 @@ ghost use Rattle.op_read.specs.Sending.{entry_octets};
 ghost use Rattle.op_read.specs.Writing.{values_octets, attributes_octets, entry_of};
 
 use crate::choosing::{Selection, is_chosen};
-use crate::seen::Seen;
 use crate::sending::Search;
 use acdf_filters::Item;
 use acdf_filters::aci_item::Permission;
 use dir_tree::NoMemory;
 use dir_tree::dn_names::Value;
 use dir_tree::schema_tables::{AttrId, row};
-use directory::{Dir, printed};
+use directory::{Dir, Target, printed};
 use ldap_msg::ber_layout::{enclose, put_element, put_number};
 use std::alloc::Global;
 
@@ -38,18 +37,18 @@ fn type_name(kind: AttrId) -> &'static str
 
 // Appends the values that may be read.
 fn put_values<D: Dir>(
-    seen: &Seen<'_, D>,
+    target: &Target<'_, '_, D>,
     kind: AttrId,
     values: &[Value],
     out: &mut Vec<u8>,
 ) -> Result<(), NoMemory>
     ensures ok { OnOk result (out.new.items ≡ out.old.items ++ values_octets (readable_values
-        (row_in (D.rows seen.now.dir.now) seen.now.who.now seen.now.entry.now)
+        (row_in (D.rows target.now.asking.now.dir.now) target.now.asking.now.who.now target.now.entry.now)
         (record { kind = kind.0; values = values.now }))) }
     ensures kept { Extends out.old.items out.new.items }
 {
     for value in values {
-        if seen.allows(Item::Value(kind, value), Permission::Read) {
+        if target.allows(Item::Value(kind, value), Permission::Read) {
             put_element(out, 0x04, value.octets())?;
         }
     }
@@ -58,7 +57,7 @@ fn put_values<D: Dir>(
 
 // Appends the set of the values that are sent: of none where types alone are asked for.
 fn put_set<D: Dir>(
-    seen: &Seen<'_, D>,
+    target: &Target<'_, '_, D>,
     kinds_only: bool,
     kind: AttrId,
     values: &[Value],
@@ -66,7 +65,7 @@ fn put_set<D: Dir>(
 ) -> Result<(), NoMemory>
     ensures ok { OnOk result (out.new.items ≡ out.old.items ++ element_octets 0x31
         (if kinds_only then [] else values_octets (readable_values
-        (row_in (D.rows seen.now.dir.now) seen.now.who.now seen.now.entry.now)
+        (row_in (D.rows target.now.asking.now.dir.now) target.now.asking.now.who.now target.now.entry.now)
         (record { kind = kind.0; values = values.now })))) }
     ensures kept { Extends out.old.items out.new.items }
 {
@@ -74,13 +73,13 @@ fn put_set<D: Dir>(
         return put_element(out, 0x31, &[]);
     }
     let start = out.len();
-    put_values(seen, kind, values, out)?;
+    put_values(target, kind, values, out)?;
     enclose(out, 0x31, start)
 }
 
 // Appends the attribute's type, and the values that are sent.
 fn put_parts<D: Dir>(
-    seen: &Seen<'_, D>,
+    target: &Target<'_, '_, D>,
     kinds_only: bool,
     kind: AttrId,
     values: &[Value],
@@ -88,17 +87,17 @@ fn put_parts<D: Dir>(
 ) -> Result<(), NoMemory>
     ensures ok { OnOk result (out.new.items ≡ out.old.items ++ writes attribute_layout
         (attribute_parts (sent_attribute kinds_only
-        (row_in (D.rows seen.now.dir.now) seen.now.who.now seen.now.entry.now)
+        (row_in (D.rows target.now.asking.now.dir.now) target.now.asking.now.who.now target.now.entry.now)
         (record { kind = kind.0; values = values.now })))) }
     ensures kept { Extends out.old.items out.new.items }
 {
     put_element(out, 0x04, type_name(kind).as_bytes())?;
-    put_set(seen, kinds_only, kind, values, out)
+    put_set(target, kinds_only, kind, values, out)
 }
 
 // Appends the attribute, if it is sent; the decision is taken last.
 fn put_attribute<D: Dir>(
-    seen: &Seen<'_, D>,
+    target: &Target<'_, '_, D>,
     selection: Selection<'_>,
     kind: AttrId,
     values: &[Value],
@@ -106,13 +105,13 @@ fn put_attribute<D: Dir>(
 ) -> Result<(), NoMemory>
     ensures ok { OnOk result (out.new.items ≡ out.old.items ++ attributes_octets
         (sent_of selection.entry.choices.now selection.entry.kinds_only
-        (row_in (D.rows seen.now.dir.now) seen.now.who.now seen.now.entry.now)
+        (row_in (D.rows target.now.asking.now.dir.now) target.now.asking.now.who.now target.now.entry.now)
         (record { kind = kind.0; values = values.now }))) }
     ensures kept { Extends out.old.items out.new.items }
 {
-    if is_chosen(selection.choices, kind) && seen.allows(Item::Kind(kind), Permission::Read) {
+    if is_chosen(selection.choices, kind) && target.allows(Item::Kind(kind), Permission::Read) {
         let start = out.len();
-        put_parts(seen, selection.kinds_only, kind, values, out)?;
+        put_parts(target, selection.kinds_only, kind, values, out)?;
         return enclose(out, 0x30, start);
     }
     Ok(())
@@ -121,20 +120,20 @@ fn put_attribute<D: Dir>(
 // Appends the attributes that are sent.
 fn put_attributes<D: Dir>(
     search: &Search<'_>,
-    seen: &Seen<'_, D>,
+    target: &Target<'_, '_, D>,
     out: &mut Vec<u8>,
 ) -> Result<(), NoMemory>
     ensures ok { OnOk result (out.new.items ≡ out.old.items
         ++ writes (Each 0x30 attribute_layout End) (
           map attribute_parts
               (sent_attributes search.now.request.now.selection search.now.request.now.kinds_only
-              (row_in (D.rows seen.now.dir.now) seen.now.who.now seen.now.entry.now)),
+              (row_in (D.rows target.now.asking.now.dir.now) target.now.asking.now.who.now target.now.entry.now)),
           tt,
         )) }
     ensures kept { Extends out.old.items out.new.items }
 {
-    for (kind, values) in seen.entry.attributes() {
-        put_attribute(seen, search.selection, kind, values, out)?;
+    for (kind, values) in target.entry.attributes() {
+        put_attribute(target, search.selection, kind, values, out)?;
     }
     Ok(())
 }
@@ -142,20 +141,20 @@ fn put_attributes<D: Dir>(
 // Appends the list of the attributes that are sent.
 fn put_list<D: Dir>(
     search: &Search<'_>,
-    seen: &Seen<'_, D>,
+    target: &Target<'_, '_, D>,
     out: &mut Vec<u8>,
 ) -> Result<(), NoMemory>
     ensures ok { OnOk result (out.new.items ≡ out.old.items ++ element_octets 0x30
         (writes (Each 0x30 attribute_layout End) (
           map attribute_parts
               (sent_attributes search.now.request.now.selection search.now.request.now.kinds_only
-              (row_in (D.rows seen.now.dir.now) seen.now.who.now seen.now.entry.now)),
+              (row_in (D.rows target.now.asking.now.dir.now) target.now.asking.now.who.now target.now.entry.now)),
           tt,
         ))) }
     ensures kept { Extends out.old.items out.new.items }
 {
     let start = out.len();
-    put_attributes(search, seen, out)?;
+    put_attributes(search, target, out)?;
     enclose(out, 0x30, start)
 }
 
@@ -163,37 +162,37 @@ fn put_list<D: Dir>(
 fn put_content<D: Dir>(
     alloc: Global,
     search: &Search<'_>,
-    seen: &Seen<'_, D>,
+    target: &Target<'_, '_, D>,
     out: &mut Vec<u8>,
 ) -> Result<(), NoMemory>
     ensures ok { OnOk result (out.new.items ≡ out.old.items ++ reply_content
         (entry_of search.now.request.now
-        (row_in (D.rows seen.now.dir.now) seen.now.who.now seen.now.entry.now))) }
+        (row_in (D.rows target.now.asking.now.dir.now) target.now.asking.now.who.now target.now.entry.now))) }
     ensures kept { Extends out.old.items out.new.items }
 {
-    let name = printed(alloc, seen.entry.name())?;
+    let name = printed(alloc, target.entry.name())?;
     put_element(out, 0x04, name.as_slice())?;
-    put_list(search, seen, out)
+    put_list(search, target, out)
 }
 
 // Appends the response.
 fn put_response<D: Dir>(
     alloc: Global,
     search: &Search<'_>,
-    seen: &Seen<'_, D>,
+    target: &Target<'_, '_, D>,
     out: &mut Vec<u8>,
 ) -> Result<(), NoMemory>
     ensures ok { OnOk result (out.new.items ≡ out.old.items ++ element_octets
         (response_tag (response_for
         (entry_of search.now.request.now
-        (row_in (D.rows seen.now.dir.now) seen.now.who.now seen.now.entry.now))))
+        (row_in (D.rows target.now.asking.now.dir.now) target.now.asking.now.who.now target.now.entry.now))))
         (reply_content
         (entry_of search.now.request.now
-        (row_in (D.rows seen.now.dir.now) seen.now.who.now seen.now.entry.now)))) }
+        (row_in (D.rows target.now.asking.now.dir.now) target.now.asking.now.who.now target.now.entry.now)))) }
     ensures kept { Extends out.old.items out.new.items }
 {
     let start = out.len();
-    put_content(alloc, search, seen, out)?;
+    put_content(alloc, search, target, out)?;
     enclose(out, 0x64, start)
 }
 
@@ -201,17 +200,17 @@ fn put_response<D: Dir>(
 fn put_components<D: Dir>(
     alloc: Global,
     search: &Search<'_>,
-    seen: &Seen<'_, D>,
+    target: &Target<'_, '_, D>,
     out: &mut Vec<u8>,
 ) -> Result<(), NoMemory>
     ensures ok { OnOk result (out.new.items ≡ out.old.items ++ writes reply_layout
         (reply_parts search.now.id
         (entry_of search.now.request.now
-        (row_in (D.rows seen.now.dir.now) seen.now.who.now seen.now.entry.now)))) }
+        (row_in (D.rows target.now.asking.now.dir.now) target.now.asking.now.who.now target.now.entry.now)))) }
     ensures kept { Extends out.old.items out.new.items }
 {
     put_number(out, 0x02, search.id)?;
-    put_response(alloc, search, seen, out)
+    put_response(alloc, search, target, out)
 }
 
 // Appends the message.
@@ -219,16 +218,16 @@ fn put_components<D: Dir>(
 fn put_message<D: Dir>(
     alloc: Global,
     search: &Search<'_>,
-    seen: &Seen<'_, D>,
+    target: &Target<'_, '_, D>,
     out: &mut Vec<u8>,
 ) -> Result<(), NoMemory>
     ensures ok { OnOk result (out.new.items ≡ out.old.items
         ++ reply_octets search.now.id (entry_of search.now.request.now
-        (row_in (D.rows seen.now.dir.now) seen.now.who.now seen.now.entry.now))) }
+        (row_in (D.rows target.now.asking.now.dir.now) target.now.asking.now.who.now target.now.entry.now))) }
     ensures kept { Extends out.old.items out.new.items }
 {
     let start = out.len();
-    put_components(alloc, search, seen, out)?;
+    put_components(alloc, search, target, out)?;
     enclose(out, 0x30, start)
 }
 
@@ -237,17 +236,17 @@ fn put_message<D: Dir>(
 pub(crate) fn put_entry<D: Dir>(
     alloc: Global,
     search: &Search<'_>,
-    seen: &Seen<'_, D>,
+    target: &Target<'_, '_, D>,
     out: &mut Vec<u8>,
 ) -> Result<(), NoMemory>
     ensures ok { OnOk result (out.new.items ≡ out.old.items
         ++ entry_octets search.now.id search.now.request.now
-        (row_in (D.rows seen.now.dir.now) seen.now.who.now seen.now.entry.now)) }
+        (row_in (D.rows target.now.asking.now.dir.now) target.now.asking.now.who.now target.now.entry.now)) }
     ensures kept { Extends out.old.items out.new.items }
     ensures err { OnErr result (out.new.items ≡ out.old.items) }
 {
     let before = out.len();
-    match put_message(alloc, search, seen, out) {
+    match put_message(alloc, search, target, out) {
         Ok(()) => Ok(()),
         Err(fault) => {
             out.truncate(before);

@@ -1,8 +1,8 @@
 -- What is seen of a numbered tree, by the names of its entries.
-use Rattle.std.proofs.Common.{◌≡◌, inl, inr, ℕ, Bool, true, false, ◌&&◌, List, [], ◌∷◌, Option, Some, None, refl, sym, ap, subst, ◌∙◌, map, find}
-use Rattle.std.specs.Prelude.{reverse}
+use Rattle.std.proofs.Common.{◌≡◌, inl, inr, ℕ, Bool, true, false, ◌&&◌, List, [], ◌∷◌, Option, Some, None, refl, sym, ap, ◌∙◌, map, find}
+use Rattle.std.specs.Prelude.{reverse, if◌then◌else◌}
 use Rattle.std.specs.List.{AllByRecursion, list_any}
-use Rattle.std.specs.Option.{option_map, option_map_or, option_and_then}
+use Rattle.std.specs.Option.{option_map, option_map_or}
 use Rattle.std.specs.declared.cmp.Ordering.TheVariants.{Less}
 use Rattle.std.proofs.lemmas.Bool.{cases_Bool}
 use Rattle.std.proofs.Math.Bool.{or-false}
@@ -13,19 +13,16 @@ use Rattle.dir_tree.specs.dn_names.NameOrder.{name_cmp}
 use Rattle.dir_tree.specs.dn_names.Printing.{print_name, print_by}
 use Rattle.dir_tree.specs.Entry.{EntryInformation}
 use Rattle.dir_tree.specs.tree.Trees.{is_named, is_below, named_in, IsInOrder}
-use Rattle.dir_tree.specs.tree.Numbered.{Numbered, IsNumberedTree, entries_of, entry_of}
+use Rattle.dir_tree.specs.tree.Numbered.{Numbered, IsNumberedTree, entries_of}
 use Rattle.dir_tree.proofs.TreeTheorems.{later-other}
-use Rattle.dir_tree.specs.declared.number.EntryNo.{EntryNo}
 use Rattle.acdf_filters.specs.aci_item.declared.permission.Permission.TheVariants.{DiscloseOnError}
 use Rattle.acdf_filters.specs.declared.asking.Requester.{Requester}
 use Rattle.acdf_filters.specs.Asking.{Entry}
 use Rattle.acdf_filters.specs.Granted as decision
 use Rattle.acdf_filters.specs.Granted.{granted}
-use Rattle.directory.specs.EntryNumbers.{IsEntryOf}
 use Rattle.ldap_msg.specs.declared.operations.ResultCode.TheVariants as code
-use Rattle.read_model.specs.Views.{Row, View, row_of, view_of, matched_name, discloses, is_disclosed, no_such_object, result_of, result_with}
+use Rattle.read_model.specs.Views.{Row, View, row_of, view_of, matched_name, discloses, is_disclosed, hidden, no_such_object, result_of, result_with}
 use Rattle.directory.specs.Asking.{view_in}
-use Rattle.directory.specs.Nearest.{nearest_name, without_object}
 
 -- ---- lists of what is seen of other lists
 
@@ -59,19 +56,21 @@ discloses-named rows who name h =
     list_any-map (row_of (entries_of rows) who) (λ row. is_named name row.entry && is_disclosed row) (entries_of rows)
     ∙ any-named (λ entry. granted (entries_of rows) who entry Entry DiscloseOnError) name (entries_of rows) h
 
--- as calls say it
-pub discloses-found : (tree rows : List Numbered) (who : Requester) (name : RdnSequence) (entry : EntryInformation) → tree ≡ rows → IsNumberedTree tree → Some entry ≡ named_in name (entries_of tree)
-    → discloses (view_in rows who) name ≡ granted (entries_of rows) who entry Entry DiscloseOnError
-discloses-found tree rows who name entry e numbered is =
-    let there : IsNumberedTree rows = subst IsNumberedTree e numbered in
-    discloses-named rows who name there.tree.sorted
-    ∙ ap (λ (found : Option EntryInformation). option_map_or (λ entry. granted (entries_of rows) who entry Entry DiscloseOnError) found false) (ap (λ (rows : List Numbered). named_in name (entries_of rows)) (sym e) ∙ sym is)
+-- what is told of the entry of the name, and of a name that no entry has
+pub hidden-named : (rows : List Numbered) (who : Requester) (name : RdnSequence) (entry : EntryInformation) (known : Bool) → IsNumberedTree rows → named_in name (entries_of rows) ≡ Some entry
+    → known ≡ granted (entries_of rows) who entry Entry DiscloseOnError
+    → (if known then result_of code.InsufficientAccessRights else no_such_object (view_in rows who) name) ≡ hidden (view_in rows who) name
+unfolding hidden
+hidden-named rows who name entry known tree named is =
+    ap (λ known. if known then result_of code.InsufficientAccessRights else no_such_object (view_in rows who) name)
+    (is ∙ sym (discloses-named rows who name tree.tree.sorted ∙ ap (λ (found : Option EntryInformation). option_map_or (λ entry. granted (entries_of rows) who entry Entry DiscloseOnError) found false) named))
 
-pub discloses-none : (tree rows : List Numbered) (who : Requester) (name : RdnSequence) → tree ≡ rows → IsNumberedTree tree → None ≡ named_in name (entries_of tree) → discloses (view_in rows who) name ≡ false
-discloses-none tree rows who name e numbered is =
-    let there : IsNumberedTree rows = subst IsNumberedTree e numbered in
-    discloses-named rows who name there.tree.sorted
-    ∙ ap (λ (found : Option EntryInformation). option_map_or (λ entry. granted (entries_of rows) who entry Entry DiscloseOnError) found false) (ap (λ (rows : List Numbered). named_in name (entries_of rows)) (sym e) ∙ sym is)
+pub hidden-none : (rows : List Numbered) (who : Requester) (name : RdnSequence) → IsNumberedTree rows → named_in name (entries_of rows) ≡ None
+    → no_such_object (view_in rows who) name ≡ hidden (view_in rows who) name
+unfolding hidden
+hidden-none rows who name tree none =
+    ap (λ known. if known then result_of code.InsufficientAccessRights else no_such_object (view_in rows who) name)
+    (sym (discloses-named rows who name tree.tree.sorted ∙ ap (λ (found : Option EntryInformation). option_map_or (λ entry. granted (entries_of rows) who entry Entry DiscloseOnError) found false) none))
 
 -- ---- the nearest entry above
 
@@ -86,25 +85,24 @@ matched_name-of entries who name =
     inner None = refl
     inner (Some entry) = refl
 
-nearest-of : (rows : List Numbered) (number : Option EntryNo) (wanted : Option EntryInformation) → IsEntryOf rows number wanted → nearest_name rows number ≡ option_map_or (λ entry. entry.name) wanted []
-nearest-of rows None None h = refl
-nearest-of rows None (Some entry) h = absurd h
-nearest-of rows (Some number) None h = absurd h
-nearest-of rows (Some number) (Some entry) h = ap (λ (found : Option EntryInformation). option_map_or (λ entry. entry.name) found []) h
-
-pub no_such_object-nearest : (rows : List Numbered) (who : Requester) (name : RdnSequence) (number : Option EntryNo) → IsEntryOf rows number (decision.matched (entries_of rows) who name) → without_object (nearest_name rows number) ≡ no_such_object (view_in rows who) name
-no_such_object-nearest rows who name number h =
-    ap (result_with code.NoSuchObject) (nearest-of rows number (decision.matched (entries_of rows) who name) h ∙ sym (matched_name-of (entries_of rows) who name))
-
--- a number that is not in use names nothing
-pub nearest-lost : (rows : List Numbered) (nearest : Option EntryNo) (number : EntryNo) → nearest ≡ Some number → None ≡ entry_of number.0 rows → [] ≡ nearest_name rows nearest
-nearest-lost rows nearest number e f =
-    ap (λ (found : Option EntryInformation). option_map_or (λ entry. entry.name) found []) f ∙ ap (nearest_name rows) (sym e)
-
 -- the name of the root is printed as nothing
 print-root : print_name [] ≡ []
 unfolding print_name print_by
 print-root = refl
 
-pub result-root : result_of code.NoSuchObject ≡ result_with code.NoSuchObject []
+result-root : result_of code.NoSuchObject ≡ result_with code.NoSuchObject []
 result-root = ap (λ (text : List ℕ). record { code = 32; matched = text }) (sym print-root)
+
+-- noSuchObject, by the entry that is matched
+pub no_such_object-found : (rows : List Numbered) (who : Requester) (name : RdnSequence) (entry : EntryInformation) → Some entry ≡ decision.matched (entries_of rows) who name
+    → result_with code.NoSuchObject entry.name ≡ no_such_object (view_in rows who) name
+no_such_object-found rows who name entry is =
+    ap (result_with code.NoSuchObject)
+    (ap (λ (found : Option EntryInformation). option_map_or (λ entry. entry.name) found []) is ∙ sym (matched_name-of (entries_of rows) who name))
+
+pub no_such_object-none : (rows : List Numbered) (who : Requester) (name : RdnSequence) → None ≡ decision.matched (entries_of rows) who name
+    → result_of code.NoSuchObject ≡ no_such_object (view_in rows who) name
+no_such_object-none rows who name is =
+    result-root
+    ∙ ap (result_with code.NoSuchObject)
+    (ap (λ (found : Option EntryInformation). option_map_or (λ entry. entry.name) found []) is ∙ sym (matched_name-of (entries_of rows) who name))

@@ -2,9 +2,10 @@
 use Rattle.std.proofs.Common.{◌≡◌, ℕ, suc, ◌-◌, ◌<◌, ◌≤◌, Bool, true, false, ◌&&◌, List, [], ◌∷◌, length, take, reverse, find, Option, Some, None, refl, sym, ap, subst, ◌∙◌, arith, ◌⊎◌, inl, inr}
 use Rattle.std.specs.Prelude.{nat_lt, if◌then◌else◌}
 use Rattle.std.specs.List.{AllByRecursion}
-use Rattle.std.specs.Option.{option_or, option_and_then}
+use Rattle.std.specs.Option.{option_map, option_or, option_and_then}
 use Rattle.std.specs.declared.cmp.Ordering.TheVariants.{Less}
 use Rattle.std.proofs.lemmas.Bool.{cases_Bool, cases_eq, and_parts, le-leb, lt-ltb}
+use Rattle.std.proofs.lemmas.Option.{same_Some}
 use Rattle.std.proofs.lemmas.List.{reverse-append}
 use Rattle.std.proofs.lemmas.List.Folds.{find-append}
 use Rattle.dir_tree.proofs.base_laws_proofs.Theorems.{all_map}
@@ -18,7 +19,6 @@ use Rattle.dir_tree.specs.declared.number.EntryNo.{EntryNo}
 use Rattle.acdf_filters.proofs.admin_scope_proofs.Theorems.{longer_front, length-named, front-named, named-front}
 use Rattle.acdf_filters.specs.declared.asking.Requester.{Requester}
 use Rattle.acdf_filters.specs.Granted.{is_disclosed, matched}
-use Rattle.directory.specs.EntryNumbers.{IsEntryOf}
 use Rattle.directory.specs.Fronts.{where_passes, NonePasses}
 
 -- the last that passes
@@ -154,54 +154,41 @@ last-found test k name entry (x ∷ xs) h order found passes hidden = by (cases_
         past : named_in (take k name) (x ∷ xs) ≡ named_in (take k name) xs
         past = rw other refl
 
--- so the number that is found there is that of the last
-number-found : (test : EntryInformation → Bool) (k : ℕ) (name : RdnSequence) (rows : List Numbered) (number : EntryNo) (entries : List EntryInformation) → k < length name → IsInOrder entries
-    → IsEntryOf rows (Some number) (where_passes test (named_in (take k name) entries)) → NonePasses test (suc k) name entries
-    → IsEntryOf rows (Some number) (last_passing (passes_above test name) entries)
-number-found test k name rows number entries h order is hidden = by (named_in (take k name) entries) refl is
+-- what is found and passes
+passing_parts : (test : EntryInformation → Bool) (found : Option EntryInformation) (entry : EntryInformation) → Some entry ≡ where_passes test found → (found ≡ Some entry) × (test entry ≡ true)
+passing_parts test None entry is = absurd cc
+passing_parts test (Some x) entry is = by (test x) refl is
   where
-    Goal : Type 0
-    Goal = IsEntryOf rows (Some number) (last_passing (passes_above test name) entries)
+    by : (b : Bool) → test x ≡ b → Some entry ≡ (if b then Some x else None) → (Some x ≡ Some entry) × (test entry ≡ true)
+    by true f is = (sym is, ap test (same_Some entry x is) ∙ f)
+    by false f is = absurd cc
 
-    at : (x : EntryInformation) → named_in (take k name) entries ≡ Some x → (b : Bool) → test x ≡ b → IsEntryOf rows (Some number) (if b then Some x else None) → Goal
-    at x e true f is = subst (IsEntryOf rows (Some number)) (sym (last-found test k name x entries h order e f hidden)) is
-    at x e false f is = absurd is
-
-    by : (o : Option EntryInformation) → named_in (take k name) entries ≡ o → IsEntryOf rows (Some number) (where_passes test o) → Goal
-    by None e is = absurd is
-    by (Some x) e is = at x e (test x) refl is
-
-none-passes : (rows : List Numbered) (o : Option EntryInformation) → IsEntryOf rows None o → o ≡ None
-none-passes rows None is = refl
-none-passes rows (Some x) is = absurd is
-
--- the entry that is matched: that of the front that is one shorter, where its number is found
-pub matched-found : (who : Requester) (len : ℕ) (name : RdnSequence) (rows : List Numbered) (number : EntryNo) → IsNumberedTree rows → 0 < len → len ≤ length name
-    → IsEntryOf rows (Some number) (where_passes (is_disclosed (entries_of rows) who) (named_in (take (len - 1) name) (entries_of rows)))
+-- the entry that is matched: that of the front that is one shorter, where it is found and passes
+pub matched-found : (who : Requester) (len : ℕ) (name : RdnSequence) (rows : List Numbered) (entry : EntryInformation) → IsNumberedTree rows → 0 < len → len ≤ length name
+    → Some entry ≡ where_passes (is_disclosed (entries_of rows) who) (named_in (take (len - 1) name) (entries_of rows))
     → NonePasses (is_disclosed (entries_of rows) who) len name (entries_of rows)
-    → IsEntryOf rows (Some number) (matched (entries_of rows) who name)
+    → Some entry ≡ matched (entries_of rows) who name
 unfolding matched
-matched-found who len name rows number tree some h is hidden =
+matched-found who len name rows entry tree some h is hidden =
     let more : len ≡ suc (len - 1) = omega arith in
-    number-found (is_disclosed (entries_of rows) who) (len - 1) name rows number (entries_of rows) (omega arith) tree.tree.sorted is
-    (subst (λ n. NonePasses (is_disclosed (entries_of rows) who) n name (entries_of rows)) more hidden)
+    let parts = passing_parts (is_disclosed (entries_of rows) who) (named_in (take (len - 1) name) (entries_of rows)) entry is in
+    sym (last-found (is_disclosed (entries_of rows) who) (len - 1) name entry (entries_of rows) (omega arith) tree.tree.sorted parts.0 parts.1
+    (subst (λ n. NonePasses (is_disclosed (entries_of rows) who) n name (entries_of rows)) more hidden))
 
--- where it is not, no entry passes that has as many RDNs
+-- where none is, no entry passes that has as many RDNs
 pub hidden-next : (test : EntryInformation → Bool) (len : ℕ) (name : RdnSequence) (rows : List Numbered) → IsNumberedTree rows → 0 < len → len ≤ length name
-    → IsEntryOf rows None (where_passes test (named_in (take (len - 1) name) (entries_of rows))) → NonePasses test len name (entries_of rows) → NonePasses test (len - 1) name (entries_of rows)
+    → None ≡ where_passes test (named_in (take (len - 1) name) (entries_of rows)) → NonePasses test len name (entries_of rows) → NonePasses test (len - 1) name (entries_of rows)
 hidden-next test len name rows tree some h is hidden =
     let more : len ≡ suc (len - 1) = omega arith in
-    none-next test (len - 1) name (entries_of rows) (omega arith) tree.tree.sorted
-    (none-passes rows (where_passes test (named_in (take (len - 1) name) (entries_of rows))) is)
-    (subst (λ n. NonePasses test n name (entries_of rows)) more hidden)
+    none-next test (len - 1) name (entries_of rows) (omega arith) tree.tree.sorted (sym is) (subst (λ n. NonePasses test n name (entries_of rows)) more hidden)
 
 -- and where no front is left, none is matched
 pub matched-none : (who : Requester) (len : ℕ) (name : RdnSequence) (rows : List Numbered) → len ≡ 0 → NonePasses (is_disclosed (entries_of rows) who) len name (entries_of rows)
-    → IsEntryOf rows None (matched (entries_of rows) who name)
+    → None ≡ matched (entries_of rows) who name
 unfolding matched
 matched-none who len name rows e hidden =
     let ended = subst (λ n. NonePasses (is_disclosed (entries_of rows) who) n name (entries_of rows)) e hidden in
-    subst (IsEntryOf rows None) (sym (none-ended (is_disclosed (entries_of rows) who) name (entries_of rows) ended)) tt
+    sym (none-ended (is_disclosed (entries_of rows) who) name (entries_of rows) ended)
 
 -- the number of a front is that of the entry that has its name
 entry_of-front : (rows : List Numbered) (len : ℕ) (name : RdnSequence) → AreDistinct rows → len ≤ length name
@@ -212,18 +199,13 @@ entry_of-front rows len name distinct h =
     ap (option_and_then (λ id. entry_of id rows)) front ∙ entry_of-found (take len name) rows distinct
 
 -- so what is found of the number is found of the name
-pub front-found : (test : EntryInformation → Bool) (rows tree : List Numbered) (len : ℕ) (name : RdnSequence) (number : EntryNo) (result : Option EntryNo) → tree ≡ rows → IsNumberedTree tree
-    → len < length name → Some number.0 ≡ find_front len name tree → IsEntryOf rows result (where_passes test (entry_of number.0 rows))
-    → IsEntryOf rows result (where_passes test (named_in (take len name) (entries_of rows)))
-front-found test rows tree len name number result same good h e is =
+pub front-at : (rows tree : List Numbered) (len : ℕ) (name : RdnSequence) (found : Option EntryNo) → tree ≡ rows → IsNumberedTree tree → len < length name
+    → option_map (λ no. no.0) found ≡ find_front len name tree → option_and_then (λ no. entry_of no.0 rows) found ≡ named_in (take len name) (entries_of rows)
+front-at rows tree len name found same good h e =
     let distinct : AreDistinct rows = subst AreDistinct same good.distinct in
-    let front : Some number.0 ≡ find_front len name rows = subst (λ t. Some number.0 ≡ find_front len name t) same e in
-    subst (λ o. IsEntryOf rows result (where_passes test o)) (ap (option_and_then (λ id. entry_of id rows)) front ∙ entry_of-front rows len name distinct (omega arith)) is
-
--- and where there is no number there is no such entry
-pub front-missing : (test : EntryInformation → Bool) (rows tree : List Numbered) (len : ℕ) (name : RdnSequence) → tree ≡ rows → IsNumberedTree tree → len < length name
-    → None ≡ find_front len name tree → IsEntryOf rows None (where_passes test (named_in (take len name) (entries_of rows)))
-front-missing test rows tree len name same good h e =
-    let distinct : AreDistinct rows = subst AreDistinct same good.distinct in
-    let front : None ≡ find_front len name rows = subst (λ t. None ≡ find_front len name t) same e in
-    subst (λ o. IsEntryOf rows None (where_passes test o)) (ap (option_and_then (λ id. entry_of id rows)) front ∙ entry_of-front rows len name distinct (omega arith)) tt
+    let front : option_map (λ no. no.0) found ≡ find_front len name rows = subst (λ t. option_map (λ no. no.0) found ≡ find_front len name t) same e in
+    by found ∙ ap (option_and_then (λ id. entry_of id rows)) front ∙ entry_of-front rows len name distinct (omega arith)
+  where
+    by : (found : Option EntryNo) → option_and_then (λ no. entry_of no.0 rows) found ≡ option_and_then (λ id. entry_of id rows) (option_map (λ (no : EntryNo). no.0) found)
+    by None = refl
+    by (Some number) = refl

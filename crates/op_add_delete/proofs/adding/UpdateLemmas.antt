@@ -31,13 +31,13 @@ changed-like before one other None after same is = same ∙ is
 changed-like before one other (Some refusal) after same is = (same ∙ is.0, is.1)
 
 -- the target may go
-pub allowed-target : (tree rows : List Numbered) (who : Requester) (name : RdnSequence) (target : EntryInformation) (id : ℕ) → tree ≡ rows → Some target ≡ named_in name (entries_of tree) → entry_of id tree ≡ Some target → delete_refusal (entries_of rows) who name target ≡ None
+pub allowed-target : (rows : List Numbered) (who : Requester) (name : RdnSequence) (target : EntryInformation) (id : ℕ) → named_in name (entries_of rows) ≡ Some target → entry_of id rows ≡ Some target → delete_refusal (entries_of rows) who name target ≡ None
     → IsAllowed rows who name id
-allowed-target tree rows who name target id e is known none = record {
+allowed-target rows who name target id is known none = record {
   target = target;
-  found = ap (entry_of id) (sym e) ∙ known;
+  found = known;
   leaves =
-      ap (λ (found : Option EntryInformation). deleted_target (entries_of rows) who name found) (ap (λ (rows : List Numbered). named_in name (entries_of rows)) (sym e) ∙ sym is)
+      ap (λ (found : Option EntryInformation). deleted_target (entries_of rows) who name found) is
       ∙ ap (λ (refusal : Option LdapResult). unless refusal (taken_out target.name (entries_of rows))) none;
 }
 

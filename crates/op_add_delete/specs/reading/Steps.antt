@@ -1,5 +1,5 @@
 -- How an update is taken step by step: what a call answers for each step.
-use Rattle.std.specs.Prelude.{◌≡◌, ℕ, Bool, List, ◌∷◌, ◌++◌, Some, None, Result, Ok, Err, if◌then◌else◌}
+use Rattle.std.specs.Prelude.{◌≡◌, ℕ, Bool, List, ◌∷◌, ◌++◌, Some, Result, Ok, Err, if◌then◌else◌}
 use Rattle.dir_tree.specs.dn_names.name.Names.{RdnSequence}
 use Rattle.dir_tree.specs.Entry.{Attribute, EntryInformation}
 use Rattle.dir_tree.specs.tree.Trees.{named_in, taken_out}

@@ -1,6 +1,5 @@
 -- What a call did is what the definition says.
 use Rattle.std.proofs.Common.{◌≡◌, ◌≢◌, ℕ, Bool, false, List, [], ◌∷◌, length, Option, Some, None, Result, Ok, Err, refl, sym, ap, subst, ◌∙◌, arith}
-use Rattle.std.specs.Option.{option_map_or}
 use Rattle.std.specs.Result.{result_ok}
 use Rattle.dir_tree.specs.dn_names.name.Names.{RdnSequence}
 use Rattle.dir_tree.specs.dn_names.declared.error.BadName.{BadName}
@@ -13,8 +12,6 @@ use Rattle.op_add_delete.specs.schema_rules.Checking.{replaced, others}
 use Rattle.acdf_filters.specs.aci_item.Rules.{broken_rule}
 use Rattle.dir_tree.specs.declared.number.EntryNo.{EntryNo}
 use Rattle.acdf_filters.specs.declared.asking.Requester.{Requester}
-use Rattle.acdf_filters.specs.Granted.{granted, granted_after}
-use Rattle.entry_changes.specs.Change.{Asker, Modification, changed_by}
 use Rattle.ldap_msg.specs.declared.operations.ResultCode.{ResultCode}
 use Rattle.ldap_msg.specs.declared.operations.ResultCode.TheVariants as code
 use Rattle.ldap_msg.specs.declared.kinds.Change.{Change}
@@ -22,9 +19,8 @@ use Rattle.ldap_msg.specs.declared.kinds.LdapResult.{LdapResult}
 use Rattle.ldap_msg.specs.declared.kinds.ModifyRequest.{ModifyRequest}
 use Rattle.read_model.specs.Views.{result_of}
 use Rattle.op_add_delete.specs.adding.Updates.{Changed, Refused, Made, IsChanged}
-use Rattle.op_modify.specs.Asked.{asker_at}
 use Rattle.op_modify.specs.ReadChanges.{read_changes}
-use Rattle.op_modify.specs.Modifying.{asker_of, modified_as, modified_by, modified_named, modified}
+use Rattle.op_modify.specs.Modifying.{modified_by, modified_named, modified}
 use Rattle.op_modify.specs.declared.replacing.Checked.{Checked}
 use Rattle.op_modify.specs.declared.replacing.Checked.TheVariants as checked
 use Rattle.op_modify.specs.Steps.{IsInPlace, IsChecked}
@@ -46,20 +42,6 @@ pub broken_rule-beside : (rows : List Numbered) (id : ℕ) (target entry : Entry
 broken_rule-beside rows id target entry tree found =
     ap (λ (old : Option EntryInformation). broken_rule old (entries_of (without id rows)) entry) found
     ∙ ap (λ (others : List EntryInformation). broken_rule (Some target) others entry) (entries_of-without id target rows tree found)
-
--- what is asked of the target's number is asked of the target
-asker_at-found : (rows : List Numbered) (who : Requester) (id : ℕ) (target : EntryInformation) → entry_of id rows ≡ Some target → asker_at rows who id ≡ asker_of (entries_of rows) who target
-asker_at-found rows who id target found =
-    ap {B = Asker} (λ (found : Option EntryInformation). record {
-      allows = λ item permission. option_map_or (λ entry. granted (entries_of rows) who entry item permission) found false;
-      adds = λ after kind value. option_map_or (λ entry. granted_after (entries_of rows) who entry after kind value) found false;
-    }) found
-
-pub modified_as-asked : (rows : List Numbered) (who : Requester) (id : ℕ) (target : EntryInformation) (changes : List Modification) (left : Result EntryInformation ResultCode) → entry_of id rows ≡ Some target
-    → changed_by (asker_at rows who id) target changes ≡ left
-    → modified_as (entries_of rows) target (changed_by (asker_of (entries_of rows) who target) target changes) ≡ modified_as (entries_of rows) target left
-modified_as-asked rows who id target changes left found e =
-    ap (modified_as (entries_of rows) target) (ap (λ (asker : Asker). changed_by asker target changes) (sym (asker_at-found rows who id target found)) ∙ e)
 
 -- ---- modifies, by what the name is
 

@@ -1,11 +1,10 @@
 -- The entries that a search selects, by their numbers.
-use Rattle.std.proofs.Common.{◌≡◌, ◌⊎◌, inl, inr, ℕ, Bool, true, false, ◌&&◌, List, [], ◌∷◌, Option, Some, None, refl, sym, ap, ◌∙◌, map, filter, find}
+use Rattle.std.proofs.Common.{◌≡◌, ◌⊎◌, inl, inr, ℕ, Bool, true, false, ◌&&◌, List, [], ◌∷◌, Option, Some, None, refl, sym, ap, ◌∙◌, map, filter}
 use Rattle.std.specs.Prelude.{is_some}
 use Rattle.std.specs.List.{list_any}
-use Rattle.std.specs.Option.{option_map}
 use Rattle.std.proofs.lemmas.Bool.{cases_Bool}
 use Rattle.std.proofs.lemmas.List.Elements.{filter_agree}
-use Rattle.dir_tree.proofs.base_laws_proofs.Theorems.{find-map, list_any-map, find-passes}
+use Rattle.dir_tree.proofs.base_laws_proofs.Theorems.{list_any-map, find-passes}
 use Rattle.dir_tree.specs.dn_names.name.Names.{RdnSequence}
 use Rattle.dir_tree.specs.dn_names.NameOrder.{is_same}
 use Rattle.dir_tree.specs.Entry.{EntryInformation}
@@ -25,10 +24,11 @@ use Rattle.page_core.specs.read_model.SearchReplies.{found_replies, replies_at}
 use Rattle.page_core.specs.read_model.Selecting.{takes_in, is_shown, is_selected, selected}
 use Rattle.page_core.specs.Starts.{is_after}
 use Rattle.directory.specs.Asking.{view_in}
+use Rattle.directory.proofs.Theorems.{in-use}
 use Rattle.op_read.specs.Seeing.{row_in, one_or_none, scope_of}
 use Rattle.op_read.specs.Sending.{shown_among}
-use Rattle.op_read.proofs.seen.ListLemmas.{filter-two, among}
-use Rattle.op_read.proofs.seen.NameLemmas.{named-entries, within-like}
+use Rattle.op_read.proofs.selecting.ListLemmas.{filter-two, among}
+use Rattle.op_read.proofs.selecting.NameLemmas.{named-entries, within-like}
 
 -- the entries of a scope are those that it takes in
 base-entries : (id : ℕ) (entry : EntryInformation) (name : RdnSequence) (rows : List Numbered) → IsNumberedTree rows → entry_of id rows ≡ Some entry → named_in name (entries_of rows) ≡ Some entry
@@ -54,17 +54,6 @@ scope-entries SingleLevel id entry name rows tree known named =
 scope-entries WholeSubtree id entry name rows tree known named =
     scoped-Sub-entries id entry rows tree known
     ∙ sym (filter_agree (takes_in WholeSubtree name) (is_within entry.name) (λ x. within-like name entry.name (same-name name entry rows named) x) (entries_of rows))
-
--- a number that is found is in use
-in-use : (rows : List Numbered) → IsNumberedTree rows → (name : RdnSequence) (id : ℕ) → find_name name rows ≡ Some id → (entry : EntryInformation) × (entry_of id rows ≡ Some entry)
-in-use rows tree name id e = by (find (λ row. is_named name row.entry) rows) refl
-  where
-    by : (found : Option Numbered) → find (λ row. is_named name row.entry) rows ≡ found → (entry : EntryInformation) × (entry_of id rows ≡ Some entry)
-    by None f = (let lost : None ≡ Some id = sym (ap (option_map (λ (row : Numbered). row.id)) f) ∙ e in absurd cc)
-    by (Some row) f = (
-      row.entry,
-      sym (named-found name rows tree.distinct id e) ∙ find-map (λ (row : Numbered). row.entry) (is_named name) rows ∙ ap (option_map (λ (row : Numbered). row.entry)) f,
-    )
 
 -- those that are selected
 pub selected-among : (request : SearchRequest) (subentries : Option Bool) (name : RdnSequence) (id : ℕ) (rows : List Numbered) (who : Requester) → IsNumberedTree rows → find_name name rows ≡ Some id

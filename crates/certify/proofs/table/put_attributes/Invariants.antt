@@ -7,5 +7,5 @@ use Rattle.certify.proofs.table.put_attributes.Given as goal
 
 abbrev pub invariant-loop-kind : goal.invariant-loop-kind
 invariant-loop-kind g l =
-    let lines = attribute_lines (entries_of (g.D.Dir.rows l.asking.dir.now)) l.asking.who.now l.target.entry.now in
+    let lines = attribute_lines (entries_of (g.D.Dir.rows l.target.asking.now.dir.now)) l.target.asking.now.who.now l.target.entry.now in
     string_bytes l.out ++ flat_map lines l.kind-iterator ≡ string_bytes l.initial.out ++ flat_map lines l.target.entry.now.attributes

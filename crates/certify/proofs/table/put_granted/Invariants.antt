@@ -9,6 +9,6 @@ use Rattle.certify.proofs.table.put_granted.Given as goal
 
 abbrev pub invariant-loop-permission : goal.invariant-loop-permission
 invariant-loop-permission g l =
-    let allows = granted (entries_of (g.D.Dir.rows l.asking.dir.now)) l.asking.who.now l.target.entry.now (protected_of l.item) in
+    let allows = granted (entries_of (g.D.Dir.rows l.target.asking.now.dir.now)) l.target.asking.now.who.now l.target.entry.now (protected_of l.item) in
     string_bytes l.out ++ flat_map permission_text (filter allows (drop l.permission-index l.permissions))
     ≡ string_bytes l.initial.out ++ flat_map permission_text (filter allows l.permissions)

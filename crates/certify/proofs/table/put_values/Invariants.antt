@@ -7,5 +7,5 @@ use Rattle.certify.proofs.table.put_values.Given as goal
 
 abbrev pub invariant-loop-number : goal.invariant-loop-number
 invariant-loop-number g l =
-    let lines = value_lines (entries_of (g.D.Dir.rows l.asking.dir.now)) l.asking.who.now l.target.entry.now l.kind.0 in
+    let lines = value_lines (entries_of (g.D.Dir.rows l.target.asking.now.dir.now)) l.target.asking.now.who.now l.target.entry.now l.kind.0 in
     string_bytes l.out ++ lines l.number (drop l.number l.values) ≡ string_bytes l.initial.out ++ lines 0 l.values

@@ -8,7 +8,7 @@ use Rattle.directory.proofs.nearest.matched.Given as goal
 abbrev pub invariant-loop-len : goal.invariant-loop-len
 invariant-loop-len g l = record {
   within : l.len ≤ length l.name;
-  hidden : NonePasses (is_disclosed (entries_of (g.D.Dir.rows l.dir)) l.who) l.len l.name (entries_of (g.D.Dir.rows l.dir));
+  hidden : NonePasses (is_disclosed (entries_of (g.D.Dir.rows l.asking.dir.now)) l.asking.who.now) l.len l.name (entries_of (g.D.Dir.rows l.asking.dir.now));
 }
 
 abbrev pub decreases-loop-len : goal.decreases-loop-len

@@ -7,7 +7,7 @@ use Rattle.op_modify.proofs.renames.check_place.Goals as goal
 -- it is refused
 pub returns-in-Some : goal.returns-in-Some
 returns-in-Some g c = record {
-  ok = renamed-past (entries_of (g.D.Dir.rows c.args.asking.now.dir.now)) c.args.asking.now.who.now c.args.renaming.now c.args.target.entry.now c.args.entry (Some c.in-Some.refusal)
+  ok = renamed-past (entries_of (g.D.Dir.rows c.args.target.now.asking.now.dir.now)) c.args.target.now.asking.now.who.now c.args.renaming.now c.args.target.now.entry.now c.args.entry (Some c.in-Some.refusal)
       c.requires.free (sym c.in_ok-refusal.ensures.ok ∙ c.in-Some.is);
 }
 
@@ -15,9 +15,9 @@ returns-in-Some g c = record {
 pub returns-in-None : goal.returns-in-None
 returns-in-None g c = record {
   ok = record {
-    target = c.args.target.entry.now;
-    found = c.requires.found;
-    leaves = renamed-past (entries_of (g.D.Dir.rows c.args.asking.now.dir.now)) c.args.asking.now.who.now c.args.renaming.now c.args.target.entry.now c.args.entry None
+    target = c.args.target.now.entry.now;
+    found = c.args.target.now.found;
+    leaves = renamed-past (entries_of (g.D.Dir.rows c.args.target.now.asking.now.dir.now)) c.args.target.now.asking.now.who.now c.args.renaming.now c.args.target.now.entry.now c.args.entry None
         c.requires.free (sym c.in_ok-refusal.ensures.ok ∙ c.in-None.is);
   };
 }

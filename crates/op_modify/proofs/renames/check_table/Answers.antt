@@ -6,6 +6,6 @@ use Rattle.op_modify.proofs.renames.check_table.Goals as goal
 
 pub returns-in-Some : goal.returns-in-Some
 returns-in-Some g c = record {
-  ok = renamed-stop (entries_of (g.D.Dir.rows c.args.asking.now.dir.now)) c.args.asking.now.who.now c.args.renaming.now c.args.target.entry.now _ c.in-Some.refusal
+  ok = renamed-stop (entries_of (g.D.Dir.rows c.args.target.now.asking.now.dir.now)) c.args.target.now.asking.now.who.now c.args.renaming.now c.args.target.now.entry.now _ c.in-Some.refusal
       (sym c.in_ok-refusal.ensures.ok ∙ c.in-Some.is);
 }

@@ -12,7 +12,7 @@ use Rattle.op_read.proofs.paging.put_none.Goals as goal
 
 pub returns-then-is_done-clause-ok : goal.returns-then-is_done-clause-ok
 returns-then-is_done-clause-ok g c =
-    let view = view_in (g.D.Dir.rows c.args.asking.now.dir.now) c.args.asking.now.who.now in
+    let view = view_in (g.D.Dir.rows c.args.target.now.asking.now.dir.now) c.args.target.now.asking.now.who.now in
     let search = c.args.search.now in
     let base = c.args.base.now in
     let all = selected view search.request.now search.subentries base in
@@ -24,7 +24,7 @@ returns-then-is_done-clause-ok g c =
 
 pub returns-clause-ok : goal.returns-clause-ok
 returns-clause-ok g c =
-    let view = view_in (g.D.Dir.rows c.args.asking.now.dir.now) c.args.asking.now.who.now in
+    let view = view_in (g.D.Dir.rows c.args.target.now.asking.now.dir.now) c.args.target.now.asking.now.who.now in
     let search = c.args.search.now in
     let base = c.args.base.now in
     let all = selected view search.request.now search.subentries base in

@@ -1,12 +1,11 @@
 -- The base is no entry's name.
-use Rattle.std.proofs.Common.{◌∙◌, ◌∷◌, [], ap}
+use Rattle.std.proofs.Common.{◌∙◌, ◌∷◌, [], ap, sym}
 use Rattle.std.specs.Prelude.{is_some}
 use Rattle.std.proofs.lemmas.Result.{on_ok_weaker}
 use Rattle.ldap_msg.specs.declared.kinds.Reply.TheVariants as reply
 use Rattle.page_core.specs.read_model.Views.{hidden}
 use Rattle.directory.specs.Asking.{view_in}
 use Rattle.op_read.specs.Paging.{page_at}
-use Rattle.op_read.proofs.seen.SeenLemmas.{name-none}
 use Rattle.op_read.proofs.selecting.SelectingLemmas.{named-rows}
 use Rattle.op_read.proofs.paging.PageLemmas.{page-none}
 use Rattle.op_read.proofs.paging.CaseLemmas.{unpaged-sent}
@@ -19,9 +18,8 @@ returns-in-None-clause-ok g c =
     let view = view_in rows who in
     let search = c.args.search.now in
     let base = c.args.start.base.now in
-    let none = name-none c.tree-tree.result.now rows c.tree-tree.ensures.exact base c.find.result c.find.ensures.exact c.in-None.is in
-    on_ok_weaker c.put_hidden.result
+    on_ok_weaker c.put_absent.result
     (λ put.
-    unpaged-sent search.id c.args.out.now.items c.put_hidden.new.out.items (reply.Done (hidden view base) ∷ []) (page_at view search.request.now search.subentries base search.limit c.args.start.after.now) put
-    (page-none view search.request.now search.subentries base search.limit c.args.start.after.now (named-rows rows who base ∙ ap is_some none)))
-    c.put_hidden.ensures.ok
+    unpaged-sent search.id c.args.out.now.items c.put_absent.new.out.items (reply.Done (hidden view base) ∷ []) (page_at view search.request.now search.subentries base search.limit c.args.start.after.now) put
+    (page-none view search.request.now search.subentries base search.limit c.args.start.after.now (named-rows rows who base ∙ ap is_some (sym c.in-None.ensures.number))))
+    c.put_absent.ensures.ok

@@ -10,8 +10,8 @@ use Rattle.op_read.proofs.paging.put_page_selected.Goals as goal
 
 pub returns-clause-ok : goal.returns-clause-ok
 returns-clause-ok g c =
-    let rows = g.D.Dir.rows c.args.asking.now.dir.now in
-    let who = c.args.asking.now.who.now in
+    let rows = g.D.Dir.rows c.args.target.now.asking.now.dir.now in
+    let who = c.args.target.now.asking.now.who.now in
     let search = c.args.search.now in
     let base = c.args.start.base.now in
     on_ok_weaker c.put_ending.result

@@ -1,30 +1,27 @@
 -- The base is an entry's name, or it is hidden.
-use Rattle.std.proofs.Common.{◌∙◌, ◌++◌, List, ap}
+use Rattle.std.proofs.Common.{◌∙◌, ◌++◌, List, ap, sym}
 use Rattle.std.proofs.lemmas.Result.{on_ok_weaker}
 use Rattle.ldap_msg.specs.declared.kinds.Reply.{Reply}
 use Rattle.page_core.specs.read_model.SearchReplies.{replies_octets}
-use Rattle.op_read.proofs.seen.SeenLemmas.{name-found, name-none}
 use Rattle.op_read.proofs.selecting.SelectingLemmas.{replies-found, replies-none}
 use Rattle.op_read.proofs.searching.put_at.Goals as goal
 
 pub returns-in-Some-clause-ok : goal.returns-in-Some-clause-ok
 returns-in-Some-clause-ok g c =
     let rows = g.D.Dir.rows c.args.asking.now.dir.now in
-    let found = name-found c.tree-tree.result.now rows c.tree-tree.ensures.exact c.args.base.now c.find.result c.in-Some.number c.find.ensures.exact c.in-Some.is in
     on_ok_weaker c.put_selected.result
     (λ put.
-    put
+    (rw c.in-Some.ensures.asking at put)
     ∙ ap (λ (replies : List Reply). c.args.out.now.items ++ replies_octets c.args.search.now.id replies)
-    (replies-found rows c.args.asking.now.who.now c.args.search.now.request.now c.args.search.now.subentries c.args.base.now c.in-Some.number.0 found))
+    (replies-found rows c.args.asking.now.who.now c.args.search.now.request.now c.args.search.now.subentries c.args.base.now c.in-Some.target.number.0 (sym c.in-Some.ensures.number)))
     c.put_selected.ensures.ok
 
 pub returns-in-None-clause-ok : goal.returns-in-None-clause-ok
 returns-in-None-clause-ok g c =
     let rows = g.D.Dir.rows c.args.asking.now.dir.now in
-    let none = name-none c.tree-tree.result.now rows c.tree-tree.ensures.exact c.args.base.now c.find.result c.find.ensures.exact c.in-None.is in
-    on_ok_weaker c.put_hidden.result
+    on_ok_weaker c.put_absent.result
     (λ put.
     put
     ∙ ap (λ (replies : List Reply). c.args.out.now.items ++ replies_octets c.args.search.now.id replies)
-    (replies-none rows c.args.asking.now.who.now c.args.search.now.request.now c.args.search.now.subentries c.args.base.now none))
-    c.put_hidden.ensures.ok
+    (replies-none rows c.args.asking.now.who.now c.args.search.now.request.now c.args.search.now.subentries c.args.base.now (sym c.in-None.ensures.number)))
+    c.put_absent.ensures.ok

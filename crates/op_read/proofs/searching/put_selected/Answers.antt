@@ -16,8 +16,8 @@ use Rattle.op_read.proofs.searching.put_selected.Goals as goal
 
 pub returns-clause-ok : goal.returns-clause-ok
 returns-clause-ok g c =
-    let rows = g.D.Dir.rows c.args.asking.now.dir.now in
-    let who = c.args.asking.now.who.now in
+    let rows = g.D.Dir.rows c.args.target.now.asking.now.dir.now in
+    let who = c.args.target.now.asking.now.who.now in
     let search = c.args.search.now in
     let request = search.request.now in
     let middle = c.put_scope.new.out.items in
@@ -25,10 +25,10 @@ returns-clause-ok g c =
     let at = rows_at rows who in
     let octets = entry_octets search.id request in
     let test = is_shown request search.subentries in
-    let ids = scoped (scope_of request.scope) c.args.number.0 rows in
+    let ids = scoped (scope_of request.scope) c.args.target.now.number.0 rows in
     let limited = subst (λ (limit : ℕ). IsSent at limit octets (shown_among test rows who ids) c.args.out.now.items middle found) c.requires.limit c.in_ok-found.ensures.ok in
     let sent = subst (λ (rows : View). IsSent at request.size octets rows c.args.out.now.items middle found)
-    (selected-among request search.subentries c.args.base.now c.args.number.0 rows who c.requires.tree c.requires.found) limited in
+    (selected-among request search.subentries c.args.base.now c.args.target.now.number.0 rows who c.requires.tree c.requires.found) limited in
     on_ok_weaker c.put_done.result
     (λ put.
     found-replies at search.id (view_in rows who) (selected (view_in rows who) request search.subentries c.args.base.now) request c.args.base.now c.args.out.now.items middle c.put_done.new.out.items found

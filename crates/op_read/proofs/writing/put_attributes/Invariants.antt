@@ -9,8 +9,8 @@ use Rattle.op_read.proofs.writing.put_attributes.Given as goal
 
 abbrev pub invariant-loop-kind : goal.invariant-loop-kind
 invariant-loop-kind g l =
-    let sent = sent_of l.search.selection.choices.now l.search.selection.kinds_only (row_in (g.D.Dir.rows l.seen.dir.now) l.seen.who.now l.seen.entry.now) in
+    let sent = sent_of l.search.selection.choices.now l.search.selection.kinds_only (row_in (g.D.Dir.rows l.target.asking.now.dir.now) l.target.asking.now.who.now l.target.entry.now) in
     record {
-      whole : l.out.items ++ attributes_octets (flat_map sent l.kind-iterator) ≡ l.fn.out.items ++ attributes_octets (flat_map sent l.seen.entry.now.attributes);
+      whole : l.out.items ++ attributes_octets (flat_map sent l.kind-iterator) ≡ l.fn.out.items ++ attributes_octets (flat_map sent l.target.entry.now.attributes);
       kept : Extends l.fn.out.items l.out.items;
     }

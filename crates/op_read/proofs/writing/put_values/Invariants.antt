@@ -9,4 +9,4 @@ use Rattle.op_read.proofs.writing.put_values.Given as goal
 abbrev pub invariant-loop-value : goal.invariant-loop-value
 invariant-loop-value g l =
     l.out.items ≡ l.fn.out.items
-    ++ values_octets (filter (λ value. (row_in (g.D.Dir.rows l.seen.dir.now) l.seen.who.now l.seen.entry.now).allows (Value l.kind.0 value) Read) (take l.value-index l.values))
+    ++ values_octets (filter (λ value. (row_in (g.D.Dir.rows l.target.asking.now.dir.now) l.target.asking.now.who.now l.target.entry.now).allows (Value l.kind.0 value) Read) (take l.value-index l.values))

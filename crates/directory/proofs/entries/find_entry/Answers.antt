@@ -6,7 +6,8 @@ use Rattle.dir_tree.specs.tree.Numbered.{Numbered, IsNumberedTree, entries_of, e
 use Rattle.dir_tree.specs.tree.Trees.{named_in}
 use Rattle.dir_tree.specs.declared.number.EntryNo.{EntryNo}
 use Rattle.dir_tree.proofs.TreeTheorems.{named-found, named-none}
-use Rattle.directory.proofs.asking.find_target.Goals as goal
+use Rattle.directory.proofs.entries.EntryLemmas.{in-use}
+use Rattle.directory.proofs.entries.find_entry.Goals as goal
 
 found : (name : RdnSequence) (rows : List Numbered) → IsNumberedTree rows → (answer : Option EntryNo) (number : EntryNo) → option_map (λ no. no.0) answer ≡ find_name name rows → answer ≡ Some number → named_in name (entries_of rows) ≡ entry_of number.0 rows
 found name rows tree answer number e is = named-found name rows tree.distinct number.0 (sym e ∙ ap (option_map (λ (no : EntryNo). no.0)) is)
@@ -25,3 +26,9 @@ returns-in-Some-clause-exact c =
 pub returns-in-None-clause-exact : goal.returns-in-None-clause-exact
 returns-in-None-clause-exact c =
     c.in-None.ensures.exact ∙ sym (found c.args.name.now c.args.tree.now c.entries_form_a_tree.ensures.exact c.find.result c.in_ok-number.number c.find.ensures.exact c.in_ok-number.was)
+
+pub returns-in-None-clause-number : goal.returns-in-None-clause-number
+returns-in-None-clause-number c =
+    let used = in-use c.args.tree.now c.entries_form_a_tree.ensures.exact c.args.name.now c.in_ok-number.number.0 (sym c.find.ensures.exact ∙ ap (option_map (λ (no : EntryNo). no.0)) c.in_ok-number.was) in
+    let lost : None ≡ Some used.0 = c.in-None.ensures.exact ∙ used.1 in
+    absurd cc
