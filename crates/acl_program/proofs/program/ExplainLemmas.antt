@@ -1,6 +1,6 @@
 -- Where the words ask why a data file is refused that the shelf tells, and it isn't accepted, its explanation is due: no other
 -- outcome comes, but for want of memory.
-use Rattle.std.proofs.Common.{◌≡◌, ◌<◌, ◌≤◌, ℕ, List, length, Option, Some, None, Ok, Err, refl, sym, ap, ◌∙◌, subst, arith, inl, inr, ◌⊎◌}
+use Rattle.std.proofs.Common.{◌≡◌, ◌<◌, ℕ, List, length, Option, Some, None, Ok, Err, refl, sym, ap, ◌∙◌, subst, arith, inl, inr, ◌⊎◌}
 use Rattle.command_files.specs.plain_values.Counts.{Rose}
 use Rattle.command_files.specs.wire_io.Files.{Files}
 use Rattle.command_words.specs.command.Command.{CommandView, Serve, Replay, Check, Why, Dump, Sample, Verify, IsCommand}

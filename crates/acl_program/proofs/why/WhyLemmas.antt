@@ -1,5 +1,5 @@
 -- Lemmas on what is told of a data file of which was asked why.
-use Rattle.std.proofs.Common.{◌≡◌, ℕ, ◌≤◌, List, length, Option, Some, None, Ok, Err, refl, sym, ap, subst, inl, inr}
+use Rattle.std.proofs.Common.{◌≡◌, ℕ, ◌≤◌, List, length, Option, Some, Ok, Err, refl, sym, ap, subst, inl, inr}
 use Rattle.std.specs.Prelude.{Vec}
 use Rattle.std.specs.Global.{Global}
 use Rattle.command_words.specs.command.Command.{Why, IsCommand}
@@ -9,7 +9,6 @@ use Rattle.command_files.proofs.wire_io_proofs.Theorems.{appended-none}
 use Rattle.command_files.specs.Outside.{Written}
 use Rattle.command_files.specs.data_file.Files.{cause_of, fault_of}
 use Rattle.command_files.specs.data_file.declared.fault.DataCause.{DataCause}
-use Rattle.command_files.specs.data_file.declared.fault.DataFault.{DataFault}
 use Rattle.command_files.specs.data_file.declared.fault.DataFault.TheVariants.{Bad}
 use Rattle.command_files.specs.declared.loading.Trouble.{Trouble}
 use Rattle.command_files.specs.declared.loading.Trouble.TheVariants as trouble
