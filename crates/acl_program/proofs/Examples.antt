@@ -18,9 +18,7 @@ use Rattle.command_files.specs.loading.Changing.{changed, unchanged}
 use Rattle.command_files.specs.declared.loading.SecondFile.TheVariants.{Script, Requests, Certificate}
 use Rattle.command_files.specs.ldif_load.load.DataFile.{OfLine}
 use Rattle.command_files.specs.ldif_records.declared.types.LineCause.TheVariants.{Syntax}
-use Rattle.command_files.specs.ldif_records.lines.Places.{records_from}
 use Rattle.data_advice.specs.Advice.{advice_text}
-use Rattle.fault_places.specs.Refusals.{refusal_text}
 use Rattle.acl_program.specs.Answering.{why_text}
 use Rattle.acl_program.specs.Outcomes.{BadChangesLine, BadLine, Checked, Explained, FalseLine, Replayed, Served, text_of, status_of, number_of}
 use Rattle.command_files.specs.wire_io.declared.answers.NextFault.TheVariants.{Failed}

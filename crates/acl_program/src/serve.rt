@@ -12,7 +12,7 @@ ghost use Rattle.acl_program.specs.Outcomes.{Served};
 ghost use Rattle.acl_program.specs.program.Outside.{beside, linked, outside};
 ghost use Rattle.acl_program.specs.program.Playing.{Ends, Performs};
 ghost use Rattle.acl_program.specs.serve.Storing.{ServeAsked, StoreCall, serve_asked};
-ghost use Rattle.acl_program.specs.serve.Serving.{NotOpened, NotStored, Opens, ended_text, listening_text, loop_status, terms_of};
+ghost use Rattle.acl_program.specs.serve.Serving.{NotOpened, NotStored, Opens, bounds_of, ended_text, listening_text, loop_status};
 
 use crate::data::applied_text;
 use crate::status::Status;
@@ -197,9 +197,9 @@ fn serve_events<K: Sink, L: Link>(
     loop_status(ended).after(put)
 }
 
-/// What queues may have, in octets, and what one search is given.
+/// What queues may have, in octets, what one search is given, and whether changes are stored.
 fn bounds_of(asked: &Serving<'_>) -> Bounds
-    ensures terms { result.terms ≡ terms_of (serving_view asked.now) }
+    ensures exact { result ≡ bounds_of (serving_view asked.now) }
 {
     Bounds {
         terms: Terms {

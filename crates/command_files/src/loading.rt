@@ -170,7 +170,7 @@ fn read_file(alloc: Global, content: Vec<u8>) -> Result<DataFile, Trouble>
     }
 }
 
-/// The octets of the data file, at most as many as it may have. Whether they are accepted is not looked at.
+/// The octets of the data file. Whether they are accepted is not looked at: `BadData` tells only where it becomes too long.
 pub fn load_content<H: Shelf>(alloc: Global, shelf: &mut H, name: &str) -> Result<Vec<u8>, Trouble>
     ensures exact { LoadsContent (H.files shelf.old) name.now (H.faults shelf.old) (H.faults shelf.new) result }
     ensures kept { H.files shelf.new ≡ H.files shelf.old }

@@ -1,5 +1,5 @@
 -- Lemmas on decisions that are told.
-use Rattle.std.proofs.Common.{◌≡◌, ℕ, List, Option, Some, None, Ok, refl, ◌∙◌}
+use Rattle.std.proofs.Common.{◌≡◌, ℕ, false, List, Option, Some, None, Ok, refl, ◌∙◌}
 use Rattle.command_files.specs.wire_io.Files.{Files}
 use Rattle.command_files.specs.dir_tree.tree.Numbered.{Numbered, entries_of}
 use Rattle.command_files.specs.loading.Accepting.{HoldsIn}
@@ -15,13 +15,18 @@ use Rattle.acl_program.specs.Outcomes.{NoCommand, Answered}
 use Rattle.acl_program.specs.program.Causes.{IsPerformed, data_of}
 use Rattle.acl_program.specs.program.Outside.{Outside}
 use Rattle.acl_program.specs.program.Playing.{Ends, Performs}
-use Rattle.acl_program.proofs.program.PerformLemmas.{Performs-answered}
+use Rattle.acl_program.proofs.program.PerformLemmas.{Performs-answered, is_why}
 use Rattle.acl_program.proofs.program.RunLemmas.{Performs-undone}
 
 -- the data file of a decision
 pub decision_data : (account : Account) (name who target item permission : List ℕ) → data_of (decision_asked account name who target item permission) ≡ Some name
 decision_data Explanation name who target item permission = refl
 decision_data Certificate name who target item permission = refl
+
+-- which is no command that asks why a file is refused
+pub decision_other : (account : Account) (name who target item permission : List ℕ) → is_why (decision_asked account name who target item permission) ≡ false
+decision_other Explanation name who target item permission = refl
+decision_other Certificate name who target item permission = refl
 
 -- words that are no question
 no_question : (account : Account) (name who target item permission : List ℕ) → None ≡ question_of who target item permission

@@ -1,4 +1,4 @@
--- Where the words are a command, and its files are known and accepted, its outcome is due: no other comes, but for want of
+-- Where the words are a command, and its files are known and accepted or it says why one isn't, its outcome is due: no other comes, but for want of
 -- memory.
 use Rattle.std.proofs.Common.{◌≡◌, ℕ, Bool, false, List, [], Option, Some, Ok, refl, sym, ap, ◌∙◌, subst, inl, inr, ◌⊎◌}
 use Rattle.command_files.specs.plain_values.Counts.{Rose}
@@ -26,6 +26,7 @@ use Rattle.acl_program.specs.program.Causes.{AsksLoaded, Comes, Links, HearsStop
 use Rattle.acl_program.proofs.program.AcceptLemmas.{IsGoodSecond}
 use Rattle.acl_program.proofs.program.ReadyLemmas.{IsReady, ReadyChanges, ReadyData, ReadySecond, ReadySample, OfServe, OfReplay, OfCheck, OfDump, OfAnswer, OfSample, IsDone, tells_kind, same_entries, comes_done, ready_both, ready_loaded, Settles, settled_by}
 use Rattle.acl_program.proofs.program.AnswerLemmas.{answer_once, told_ready}
+use Rattle.acl_program.proofs.program.ExplainLemmas.{explain_due}
 
 -- a tree was to be checked, or put again
 module _ (words : List (List ℕ)) (files : Option Files) (before after : ℕ) (name : List ℕ) (changes : Option (List ℕ)) (left : Left)
@@ -214,7 +215,8 @@ due_comes words files before after old new outcome (Served asks end) is still co
     (serve_due words files before after asks old new is.1 is.2 still is.3 is.4 is.5 outcome comes links))
 due_comes words files before after old new outcome (Answered text) is still comes links =
     as_status outcome (Answered text) (answer_due words files before after text is still outcome comes)
-due_comes words files before after old new outcome (Explained line cause content) is still comes links = absurd is
+due_comes words files before after old new outcome (Explained line cause content) is still comes links =
+    as_status outcome (Explained line cause content) (explain_due words files before after line cause content is still outcome comes)
 due_comes words files before after old new outcome (Sampled text) is still comes links =
     as_status outcome (Sampled text) (sample_due words files before after text is still outcome comes)
 due_comes words files before after old new outcome OutOfMemory is still comes links = absurd is

@@ -1,9 +1,12 @@
 -- What the parts of a command say together of how it ended.
-use Rattle.std.proofs.Common.{◌≡◌, ℕ, Bool, List, Option, Some, Ok, Err, refl, sym, subst, ◌∙◌, inl, inr}
+use Rattle.std.proofs.Common.{◌≡◌, ℕ, Bool, true, false, List, Option, Some, Ok, Err, refl, sym, ap, subst, ◌∙◌, inl, inr}
 use Rattle.command_files.specs.wire_io.Files.{Files}
 use Rattle.command_files.specs.wire_io.Scripted.{LinkState}
 use Rattle.command_files.proofs.wire_io_proofs.Theorems.{appended-none}
-use Rattle.command_words.specs.command.Command.{CommandView, IsCommand, Replay, Check, Dump}
+use Rattle.command_words.specs.command.Command.{CommandView, IsCommand, Replay, Check, Why, Dump}
+use Rattle.command_words.proofs.Theorems.{IsCommand-unique}
+use Rattle.command_files.specs.data_file.Files.{cause_of}
+use Rattle.command_files.specs.ldif_load.load.DataFile.{FileCause}
 use Rattle.command_files.specs.dir_tree.tree.Numbered.{Numbered, entries_of}
 use Rattle.command_files.specs.Outside.{Written, shelved}
 use Rattle.command_files.proofs.Theorems.{FailsIn-weaker}
@@ -18,7 +21,7 @@ use Rattle.command_files.specs.loading.Changing.{left_of}
 use Rattle.command_files.specs.loading.Loading.{IsRefused, LoadsData, LoadsScript, LoadsTree}
 use Rattle.acl_program.specs.Answering.{Tells}
 use Rattle.acl_program.specs.Outcomes.{Checked, Dumped, Replayed, Answered, OutOfMemory}
-use Rattle.acl_program.specs.program.Causes.{AsksData, Comes, IsBadSecond, Links, OpensFor, RefusesSecond, Second, data_of, changes_of, second_of}
+use Rattle.acl_program.specs.program.Causes.{AsksData, Comes, IsBadSecond, Links, OpensFor, RefusesSecond, Second, TellsLineAlone, data_of, changes_of, second_of}
 use Rattle.acl_program.specs.program.Outside.{Linked, Outside, beside}
 use Rattle.acl_program.specs.program.Playing.{Ends, ComesFor, LinksFor, Performs}
 use Rattle.acl_program.specs.Troubles.{outcome_of}
@@ -28,21 +31,31 @@ use Rattle.acl_program.proofs.troubles.EndsLemmas.{Ends-no_memory}
 unread_later : (files : Option Files) (name : List ℕ) (before middle after : ℕ) → middle ≡ before → IsUnread files name middle after → IsUnread files name before after
 unread_later files name before middle after stays unread = subst (λ count. IsUnread files name count after) stays unread
 
+-- the command asks why a data file is refused
+abbrev pub is_why : CommandView → Bool
+is_why (Why data_file) = true
+is_why asked = false
+
+-- words that ask for another are told the line of a refused data file alone
+pub line_alone : (words : List (List ℕ)) (files : Option Files) (line : ℕ) (cause : FileCause) (asked : CommandView) → is_why asked ≡ false → IsCommand words asked → TellsLineAlone words files line cause
+line_alone words files line cause asked other is = λ data_file why.
+    let clash : true ≡ false = ap is_why (IsCommand-unique words (Why data_file) asked why is) ∙ other in absurd (cc)
+
 -- a data file that wasn't read
 data_refused :
     (asked : CommandView) (name : List ℕ) (files : Option Files) (before after : ℕ) (why : Trouble)
-    → data_of asked ≡ Some name → LoadsData files name before after (Err why) → ComesFor asked files before after (outcome_of why)
+    → is_why asked ≡ false → data_of asked ≡ Some name → LoadsData files name before after (Err why) → ComesFor asked files before after (outcome_of why)
 unfolding LoadsData Comes AsksData
-data_refused asked name files before after trouble.NoFile names loads =
+data_refused asked name files before after trouble.NoFile other names loads =
     λ words is. inl (record { data_file = name; asked = (asked, is, names); unread = loads })
-data_refused asked name files before after (trouble.BadData line cause) names loads =
-    λ words is. (inl (record { data_file = name; asked = (asked, is, names); bad = loads.0 }), loads.1)
-data_refused asked name files before after (trouble.BadLine file line) names loads = absurd loads
-data_refused asked name files before after (trouble.BadChanges line cause) names loads = absurd loads
-data_refused asked name files before after trouble.NoMemory names loads = λ words is. loads
+data_refused asked name files before after (trouble.BadData line cause) other names loads =
+    λ words is. (inl (record { data_file = name; asked = (asked, is, names); bad = loads.0 }), line_alone words files line (cause_of cause) asked other is, loads.1)
+data_refused asked name files before after (trouble.BadLine file line) other names loads = absurd loads
+data_refused asked name files before after (trouble.BadChanges line cause) other names loads = absurd loads
+data_refused asked name files before after trouble.NoMemory other names loads = λ words is. loads
 
 -- a file that wasn't read leaves the link as it is, unless it is one of changes that is to be served
-links_refused :
+pub links_refused :
     (asked : CommandView) (why : Trouble) (before after : Linked) → after ≡ before → ((line : ℕ) (cause : ChangesCause) → why ≡ trouble.BadChanges line cause → OpensFor asked before after)
     → LinksFor asked (outcome_of why) before after
 unfolding Links
@@ -54,12 +67,12 @@ links_refused asked trouble.NoMemory before after stays opens = λ words is. inl
 
 pub Performs-refused :
     (asked : CommandView) (name : List ℕ) (before after : Outside) (status : Status) (why : Trouble)
-    → data_of asked ≡ Some name → LoadsData before.shelf.files name before.shelf.faults after.shelf.faults (Err why) → Ends (outcome_of why) before.out status after.out
+    → is_why asked ≡ false → data_of asked ≡ Some name → LoadsData before.shelf.files name before.shelf.faults after.shelf.faults (Err why) → Ends (outcome_of why) before.out status after.out
     → after.link ≡ before.link → Performs asked before status after
 unfolding Performs LoadsData
-Performs-refused asked name before after status why names loads ends stays = (
+Performs-refused asked name before after status why other names loads ends stays = (
   outcome_of why,
-  data_refused asked name before.shelf.files before.shelf.faults after.shelf.faults why names loads,
+  data_refused asked name before.shelf.files before.shelf.faults after.shelf.faults why other names loads,
   ends,
   links_refused asked why before.link after.link stays (λ line cause is. absurd (subst (λ cause. LoadsData before.shelf.files name before.shelf.faults after.shelf.faults (Err cause)) is loads)),
 )
@@ -67,27 +80,27 @@ Performs-refused asked name before after status why names loads ends stays = (
 -- a data file with its changes, of which one wasn't taken
 pub tree_refused :
     (asked : CommandView) (name : List ℕ) (files : Option Files) (before after : ℕ) (why : Trouble)
-    → data_of asked ≡ Some name → LoadsTree files name (changes_of asked) before after (Err why) → ComesFor asked files before after (outcome_of why)
+    → is_why asked ≡ false → data_of asked ≡ Some name → LoadsTree files name (changes_of asked) before after (Err why) → ComesFor asked files before after (outcome_of why)
 unfolding LoadsTree Comes AsksData
-tree_refused asked name files before after trouble.NoFile names (inl unread) =
+tree_refused asked name files before after trouble.NoFile other names (inl unread) =
     λ words is. inl (record { data_file = name; asked = (asked, is, names); unread = unread })
-tree_refused asked name files before after trouble.NoFile names (inr unread) =
+tree_refused asked name files before after trouble.NoFile other names (inr unread) =
     λ words is. inr (inr (record { command = asked; data_file = name; asked = is; has_data = names; unread = unread }))
-tree_refused asked name files before after (trouble.BadData line cause) names loads =
-    λ words is. (inl (record { data_file = name; asked = (asked, is, names); bad = loads.0 }), loads.1)
-tree_refused asked name files before after (trouble.BadLine file line) names loads = absurd loads
-tree_refused asked name files before after (trouble.BadChanges line cause) names loads =
+tree_refused asked name files before after (trouble.BadData line cause) other names loads =
+    λ words is. (inl (record { data_file = name; asked = (asked, is, names); bad = loads.0 }), line_alone words files line (cause_of cause) asked other is, loads.1)
+tree_refused asked name files before after (trouble.BadLine file line) other names loads = absurd loads
+tree_refused asked name files before after (trouble.BadChanges line cause) other names loads =
     λ words is. (record { command = asked; data_file = name; asked = is; has_data = names; bad = loads.0 }, loads.1)
-tree_refused asked name files before after trouble.NoMemory names loads = λ words is. loads
+tree_refused asked name files before after trouble.NoMemory other names loads = λ words is. loads
 
 pub Performs-tree_refused :
     (asked : CommandView) (name : List ℕ) (before after : Outside) (status : Status) (why : Trouble)
-    → data_of asked ≡ Some name → LoadsTree before.shelf.files name (changes_of asked) before.shelf.faults after.shelf.faults (Err why) → Ends (outcome_of why) before.out status after.out
+    → is_why asked ≡ false → data_of asked ≡ Some name → LoadsTree before.shelf.files name (changes_of asked) before.shelf.faults after.shelf.faults (Err why) → Ends (outcome_of why) before.out status after.out
     → after.link ≡ before.link → OpensFor asked before.link after.link → Performs asked before status after
 unfolding Performs
-Performs-tree_refused asked name before after status why names loads ends stays opens = (
+Performs-tree_refused asked name before after status why other names loads ends stays opens = (
   outcome_of why,
-  tree_refused asked name before.shelf.files before.shelf.faults after.shelf.faults why names loads,
+  tree_refused asked name before.shelf.files before.shelf.faults after.shelf.faults why other names loads,
   ends,
   links_refused asked why before.link after.link stays (λ line cause is. opens),
 )

@@ -15,7 +15,7 @@ use Rattle.command_files.proofs.Theorems.{known_read, both_in, both_fail, HoldsI
 use Rattle.acl_program.specs.Outcomes.{Outcome, NoCommand, NoFile, BadDataLine, BadChangesLine, BadLine, FalseLine, Checked, Dumped, Replayed, Served, Answered, Explained, Sampled, OutOfMemory}
 use Rattle.acl_program.specs.Answering.{IsFalseCertificate, Tells}
 use Rattle.acl_program.specs.Sampling.{RefusesSample}
-use Rattle.command_files.specs.loading.Accepting.{HoldsBeside, IsBadBeside, IsGoodChanges, IsGoodData, IsBadData, IsLoaded, IsUnreadBeside, HoldsIn, FailsIn, IsTold}
+use Rattle.command_files.specs.loading.Accepting.{HoldsBeside, IsBadBeside, IsGoodChanges, IsGoodData, IsBadData, IsFaultyData, IsLoaded, IsUnreadBeside, HoldsIn, FailsIn, IsTold}
 use Rattle.acl_program.specs.program.Causes.{IsNoCommand, IsPerformed, AsksData, changes_of, data_of, Second, second_of, IsBadSecond, Comes, RefusesData}
 use Rattle.acl_program.proofs.program.AcceptLemmas.{certificate_not_false, IsGoodSecond, second_not_bad}
 
@@ -84,9 +84,11 @@ IsDone OfAnswer (Answered text) = Unit {0}
 IsDone OfSample (Sampled text) = Unit {0}
 IsDone kind outcome = ⊥
 
--- a file whose content is bad is refused
-pub content_fails : (files : Option Files) (name : List ℕ) (line : ℕ) (cause : FileCause) (content : List ℕ) → HoldsIn files name (λ own. own ≡ content) → IsBadData line cause content → FailsIn files name (IsBadData line cause)
-content_fails files name line cause content is bad =
+-- a file whose content isn't accepted is refused
+pub content_fails : (files : Option Files) (name : List ℕ) (line : ℕ) (cause : FileCause) (content : List ℕ) → HoldsIn files name (λ own. own ≡ content) → IsFaultyData line cause content → FailsIn files name (IsBadData line cause)
+unfolding IsBadData
+content_fails files name line cause content is faulty =
+    let bad : IsBadData line cause content = inl faulty in
     HoldsIn-fails files name (IsBadData line cause) (HoldsIn-weaker files name (λ own. own ≡ content) (IsBadData line cause) (λ own same. subst (IsBadData line cause) (sym same) bad) is)
 
 -- a command that tells something answers

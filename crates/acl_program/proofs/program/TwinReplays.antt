@@ -16,7 +16,7 @@ use Rattle.session_hub.specs.Terms.{no_terms}
 use Rattle.acl_program.specs.declared.status.Status.{Status}
 use Rattle.acl_program.specs.declared.status.Status.TheVariants.{Done, ShelfFault, TurnsSpent, NoMemory}
 use Rattle.acl_program.specs.Lines.{lines_of, heard_of, replay_of, replay_text}
-use Rattle.acl_program.specs.Outcomes.{Outcome, NoFile, Replayed, OutOfMemory, text_of, status_of}
+use Rattle.acl_program.specs.Outcomes.{Outcome, NoFile, BadDataLine, Replayed, OutOfMemory, text_of, status_of}
 use Rattle.acl_program.specs.program.Outside.{Outside}
 use Rattle.acl_program.specs.program.Causes.{Comes}
 use Rattle.acl_program.specs.program.Running.{Puts}
@@ -42,6 +42,7 @@ comes_anyway : (words : List (List ℕ)) (files : Option Files) (before after : 
 unfolding Comes status_of
 comes_anyway words files before after NoFile other comes = absurd (other refl)
 comes_anyway words files before after OutOfMemory other comes = refl
+comes_anyway words files before after (BadDataLine line cause) other comes = (comes.0, comes.1, refl)
 comes_anyway words files before after outcome other comes = (comes.0, refl)
 
 -- a count that stands at 0 didn't rise

@@ -15,6 +15,7 @@ use Rattle.acl_program.specs.Outcomes.{Sampled, BadDataLine}
 use Rattle.acl_program.specs.program.Outside.{Outside}
 use Rattle.acl_program.specs.program.Playing.{Ends, Performs}
 use Rattle.acl_program.specs.Sampling.{IsFew, sample_replies, summary, sample_text}
+use Rattle.acl_program.proofs.program.PerformLemmas.{line_alone}
 
 -- words ask for no more persons than a sample may have
 says_few : (name : CommandName) (line : Line) (asked : CommandView) → Says name line asked → IsFew asked
@@ -55,8 +56,12 @@ pub Performs-unsampled :
     → loads (sample_file count) ≡ Err (record { line = line; cause = cause }) → Ends (BadDataLine line cause) before.out status after.out
     → after.shelf.faults ≡ before.shelf.faults → after.link ≡ before.link → Performs (Sample count) before status after
 unfolding Performs Comes Links
-Performs-unsampled count line cause before after status bad ends stays same =
-    (BadDataLine line cause, (λ words is. (inr (record { count = count; asked = is; bad = bad }), stays)), ends, λ words is. same)
+Performs-unsampled count line cause before after status bad ends stays same = (
+  BadDataLine line cause,
+  (λ words is. (inr (record { count = count; asked = is; bad = bad }), line_alone words before.shelf.files line cause (Sample count) refl is, stays)),
+  ends,
+  λ words is. same,
+)
 
 -- the summary of what was sent over the entries of a tree
 pub summary_is : (entries : ℕ) (sent : List ℕ) (rows : List Numbered) (count : ℕ) → entries ≡ length rows → sent ≡ sample_replies (entries_of rows) count

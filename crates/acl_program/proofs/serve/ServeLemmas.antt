@@ -144,7 +144,7 @@ pub Performs-unready :
 unfolding Performs Readies
 Performs-unready serving before after status why readies ends = (
   outcome_of why,
-  tree_refused (Serve serving) serving.data_file before.shelf.files before.shelf.faults after.shelf.faults why refl readies.0,
+  tree_refused (Serve serving) serving.data_file before.shelf.files before.shelf.faults after.shelf.faults why refl refl readies.0,
   ends,
   links_unready serving why before.link after.link readies.1,
 )

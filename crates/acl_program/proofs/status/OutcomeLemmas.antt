@@ -9,6 +9,7 @@ use Rattle.command_files.specs.dir_tree.Entry.{EntryInformation}
 use Rattle.command_files.specs.declared.changing.ChangesCause.{ChangesCause}
 use Rattle.command_files.specs.declared.loading.SecondFile.{SecondFile}
 use Rattle.command_files.specs.ldif_load.load.DataFile.{FileCause}
+use Rattle.command_files.specs.loading.Accepting.{HoldsIn}
 use Rattle.acl_program.specs.declared.status.Status.{Status}
 use Rattle.acl_program.specs.declared.status.Status.TheVariants.{Done, Usage, BadData, ShelfFault, SinkFault, LinkFault, TurnsSpent, NoMemory, BadScript, NotProved, StoreFault}
 use Rattle.acl_program.specs.program.Outside.{Linked, Outside, NoneFailed, LinkFailed, StoreFailed}
@@ -58,7 +59,7 @@ usage_comes words files before after (Sampled text) is comes = absurd (cc)
 usage_comes words files before after OutOfMemory is comes = absurd (cc)
 
 -- a data file whose refusal was explained is refused
-explained_refuses : (words : List (List ℕ)) (files : Option Files) (line : ℕ) (cause : FileCause) (content : List ℕ) → ExplainsData words files line cause content → RefusesData words files line cause
+explained_refuses : (words : List (List ℕ)) (files : Option Files) (line : ℕ) (cause : FileCause) (content : List ℕ) → ExplainsData words (HoldsIn files) line cause content → RefusesData words files line cause
 unfolding AsksData
 explained_refuses words files line cause content own = record {
   data_file = own.data_file;
@@ -246,7 +247,7 @@ pub count_stays : (words : List (List ℕ)) (files : Option Files) (before after
 unfolding status_of Comes
 count_stays words files before after NoCommand status is other comes = comes.1
 count_stays words files before after NoFile status is other comes = absurd (other is)
-count_stays words files before after (BadDataLine line cause) status is other comes = comes.1
+count_stays words files before after (BadDataLine line cause) status is other comes = comes.2
 count_stays words files before after (BadChangesLine line cause) status is other comes = comes.1
 count_stays words files before after (BadLine file line) status is other comes = comes.1
 count_stays words files before after (FalseLine line) status is other comes = comes.1

@@ -1,20 +1,22 @@
 -- Lemmas on what is told of a data file of which was asked why.
-use Rattle.std.proofs.Common.{◌≡◌, ℕ, ◌≤◌, List, length, Option, Some, None, Ok, Err, refl, sym, ap, subst, inl}
+use Rattle.std.proofs.Common.{◌≡◌, ℕ, ◌≤◌, List, length, Option, Some, Ok, Err, refl, sym, ap, subst, inl, inr}
 use Rattle.std.specs.Prelude.{Vec}
 use Rattle.std.specs.Global.{Global}
 use Rattle.command_words.specs.command.Command.{Why, IsCommand}
-use Rattle.command_files.proofs.Theorems.{HoldsIn-weaker}
+use Rattle.command_words.proofs.Theorems.{IsCommand-unique}
+use Rattle.command_files.proofs.Theorems.{FailsIn-weaker, HoldsIn-weaker}
 use Rattle.command_files.proofs.wire_io_proofs.Theorems.{appended-none}
 use Rattle.command_files.specs.Outside.{Written}
 use Rattle.command_files.specs.data_file.Files.{cause_of, fault_of}
 use Rattle.command_files.specs.data_file.declared.fault.DataCause.{DataCause}
-use Rattle.command_files.specs.data_file.declared.fault.DataFault.{DataFault}
 use Rattle.command_files.specs.data_file.declared.fault.DataFault.TheVariants.{Bad}
 use Rattle.command_files.specs.declared.loading.Trouble.{Trouble}
+use Rattle.command_files.specs.declared.loading.Trouble.TheVariants as trouble
 use Rattle.command_files.specs.dir_tree.Entry.{EntryInformation}
-use Rattle.command_files.specs.ldif_load.load.DataFile.{loads}
-use Rattle.command_files.specs.loading.Accepting.{HoldsIn, IsBadData, IsGoodData, most_data}
-use Rattle.command_files.specs.loading.Loading.{LoadsContent, LoadsData}
+use Rattle.command_files.specs.ldif_load.declared.fault.LoadCause.TheVariants as load
+use Rattle.command_files.specs.ldif_load.load.DataFile.{OfRecord, loads}
+use Rattle.command_files.specs.loading.Accepting.{FailsIn, HoldsIn, IsBadData, IsFaultyData, IsGoodData, IsLongData, most_data}
+use Rattle.command_files.specs.loading.Loading.{LoadsContent}
 use Rattle.command_files.specs.plain_values.Answers.{IsFaultOf}
 use Rattle.command_files.specs.wire_io.Files.{Files}
 use Rattle.acl_program.specs.Answering.{why_text}
@@ -22,9 +24,11 @@ use Rattle.acl_program.specs.Deciding.{EndsWhy, IsWhy}
 use Rattle.acl_program.specs.Outcomes.{Outcome, Answered, Explained, OutOfMemory}
 use Rattle.acl_program.specs.declared.status.Status.{Status}
 use Rattle.acl_program.specs.declared.status.Status.TheVariants.{NoMemory}
-use Rattle.acl_program.specs.program.Causes.{Comes, Links}
+use Rattle.acl_program.specs.Troubles.{outcome_of}
+use Rattle.acl_program.specs.program.Causes.{AsksData, Comes, Links, data_of}
 use Rattle.acl_program.specs.program.Outside.{Linked, Outside}
-use Rattle.acl_program.specs.program.Playing.{Ends, Performs}
+use Rattle.acl_program.specs.program.Playing.{Ends, ComesFor, Performs}
+use Rattle.acl_program.proofs.program.PerformLemmas.{links_refused}
 use Rattle.acl_program.proofs.troubles.EndsLemmas.{Ends-no_memory}
 
 -- the octets that were read are not too many
@@ -32,16 +36,41 @@ pub LoadsContent-short : (files : Option Files) (name lent : List ℕ) (before a
 unfolding LoadsContent
 LoadsContent-short files name lent before after octets same loads = subst (λ all. length all ≤ most_data) (sym same) loads.1
 
--- the file wasn't read
-pub LoadsContent-unread : (files : Option Files) (name : List ℕ) (before after : ℕ) (why : Trouble) → LoadsContent files name before after (Err why) → LoadsData files name before after (Err why)
-unfolding LoadsContent
-LoadsContent-unread files name before after why loads = loads
+-- the file wasn't read, or is too long
+content_refused : (name : List ℕ) (files : Option Files) (before after : ℕ) (why : Trouble) → LoadsContent files name before after (Err why) → ComesFor (Why name) files before after (outcome_of why)
+unfolding LoadsContent Comes AsksData IsBadData
+content_refused name files before after trouble.NoFile loads =
+    λ words is. inl (record { data_file = name; asked = (Why name, is, refl); unread = loads })
+content_refused name files before after (trouble.BadData line cause) loads =
+    let limit : cause_of cause ≡ OfRecord load.Limit = ap cause_of loads.1 in
+    let same_file : (words : List (List ℕ)) (other : List ℕ) → IsCommand words (Why name) → IsCommand words (Why other) → name ≡ other =
+    (λ words other is is_other. let same : Some name ≡ Some other = ap data_of (IsCommand-unique words (Why name) (Why other) is is_other) in cc (same)) in
+    λ words is. (
+      inl (record { data_file = name; asked = (Why name, is, refl); bad = FailsIn-weaker files name (IsLongData line) (IsBadData line (cause_of cause)) (λ content long. inr (long, limit)) loads.0 }),
+      (λ other is_other. (subst (λ file. FailsIn files file (IsLongData line)) (same_file words other is is_other) loads.0, limit)),
+      loads.2,
+    )
+content_refused name files before after (trouble.BadLine file line) loads = absurd loads
+content_refused name files before after (trouble.BadChanges line cause) loads = absurd loads
+content_refused name files before after trouble.NoMemory loads = λ words is. loads
+
+pub Performs-unexplained :
+    (name : List ℕ) (before after : Outside) (status : Status) (why : Trouble)
+    → LoadsContent before.shelf.files name before.shelf.faults after.shelf.faults (Err why) → Ends (outcome_of why) before.out status after.out
+    → after.link ≡ before.link → Performs (Why name) before status after
+unfolding Performs
+Performs-unexplained name before after status why loads ends stays = (
+  outcome_of why,
+  content_refused name before.shelf.files before.shelf.faults after.shelf.faults why loads,
+  ends,
+  links_refused (Why name) why before.link after.link stays (λ line cause is. stays),
+)
 
 -- the outcome comes with every words that ask why, where the file has the content
 comes_why :
     (words : List (List ℕ)) (files : Option Files) (name content : List ℕ) (before after : ℕ) (outcome : Outcome)
     → IsCommand words (Why name) → HoldsIn files name (λ own. own ≡ content) → length content ≤ most_data → after ≡ before → IsWhy content outcome → Comes words files before after outcome
-unfolding Comes IsWhy IsBadData
+unfolding Comes IsWhy
 comes_why words files name content before after (Answered text) is holds short stays why =
     let good : IsGoodData why.0 content = record { short = short; loaded = why.1 } in (
       record {
@@ -56,12 +85,12 @@ comes_why words files name content before after (Answered text) is holds short s
       stays,
     )
 comes_why words files name content before after (Explained line cause own) is holds short stays why =
-    let bad : IsBadData line cause content = inl (short, why.1) in (
+    let bad : IsFaultyData line cause content = (short, why.1) in (
       record {
         data_file = name;
         asked = is;
         is = subst (λ all. HoldsIn files name (λ found. found ≡ all)) (sym why.0) holds;
-        bad = subst (IsBadData line cause) (sym why.0) bad;
+        bad = subst (IsFaultyData line cause) (sym why.0) bad;
       },
       stays,
     )

@@ -18,8 +18,9 @@ use Rattle.command_files.specs.declared.loading.SecondFile.{SecondFile}
 use Rattle.command_files.specs.declared.loading.SecondFile.TheVariants as second
 use Rattle.command_files.specs.dir_tree.Entry.{EntryInformation}
 use Rattle.command_files.specs.dn_names.name.Names.{RdnSequence}
-use Rattle.command_files.specs.ldif_load.load.DataFile.{FileCause}
-use Rattle.command_files.specs.loading.Accepting.{IsUnread, IsUnreadBeside, IsBadBeside, IsLoaded, IsLoadedFrom, HoldsIn, FailsIn, IsTold, IsGoodData, IsBadData, IsGoodScript, IsBadScript, IsBadRequests}
+use Rattle.command_files.specs.ldif_load.declared.fault.LoadCause.TheVariants as load
+use Rattle.command_files.specs.ldif_load.load.DataFile.{FileCause, OfRecord}
+use Rattle.command_files.specs.loading.Accepting.{IsUnread, IsUnreadBeside, IsBadBeside, IsLoaded, IsLoadedFrom, HoldsIn, FailsIn, IsTold, IsGoodData, IsBadData, IsFaultyData, IsLongData, IsGoodScript, IsBadScript, IsBadRequests}
 use Rattle.acl_program.specs.Outcomes.{Outcome, NoCommand, NoFile, BadDataLine, BadChangesLine, BadLine, FalseLine, Checked, Dumped, Replayed, Served, Answered, Explained, Sampled, OutOfMemory}
 use Rattle.acl_program.specs.program.Outside.{Linked}
 use Rattle.acl_program.specs.Answering.{IsBadCertificate, IsFalseCertificate, AsksAnswer}
@@ -150,12 +151,18 @@ pub record RefusesData (words : List (List ℕ)) (files : Option Files) (line : 
   pub asked : AsksData words data_file
   pub bad : FailsIn files data_file (IsBadData line cause)
 
--- the words ask why a data file is refused; it has this content, which is refused for this cause at this line
-pub record ExplainsData (words : List (List ℕ)) (files : Option Files) (line : ℕ) (cause : FileCause) (content : List ℕ) : Type 0 where
+-- where the words ask why a data file is refused, it is refused by its first bad line alone only where it is too long
+abbrev pub TellsLineAlone : List (List ℕ) → Option Files → ℕ → FileCause → Type 0
+TellsLineAlone words files line cause =
+    (data_file : List ℕ) → IsCommand words (Why data_file) → FailsIn files data_file (IsLongData line) × (cause ≡ OfRecord load.Limit)
+
+-- the words ask why a data file is refused, of which what is known says that it has this content, which is not too long and
+-- isn't accepted for this cause at this line
+pub record ExplainsData (words : List (List ℕ)) (holds : List ℕ → (List ℕ → Type 0) → Type 0) (line : ℕ) (cause : FileCause) (content : List ℕ) : Type 0 where
   pub data_file : List ℕ
   pub asked : IsCommand words (Why data_file)
-  pub is : HoldsIn files data_file (λ own. own ≡ content)
-  pub bad : IsBadData line cause content
+  pub is : holds data_file (λ own. own ≡ content)
+  pub bad : IsFaultyData line cause content
 
 -- the data file was accepted, and the file of changes is refused
 pub record RefusesChanges (words : List (List ℕ)) (files : Option Files) (line : ℕ) (cause : ChangesCause) : Type 0 where
@@ -220,7 +227,8 @@ pub record AsksServe (words : List (List ℕ)) (files : Option Files) (asks : Se
 unfoldable pub Comes : List (List ℕ) → Option Files → ℕ → ℕ → Outcome → Type 0
 Comes words files before after NoCommand = IsNoCommand words × (after ≡ before)
 Comes words files before after NoFile = LacksData words files before after ⊎ (LacksSecond words files before after ⊎ LacksChanges words files before after)
-Comes words files before after (BadDataLine line cause) = (RefusesData words files line cause ⊎ RefusesSample words line cause) × (after ≡ before)
+Comes words files before after (BadDataLine line cause) =
+    (RefusesData words files line cause ⊎ RefusesSample words line cause) × TellsLineAlone words files line cause × (after ≡ before)
 Comes words files before after (BadChangesLine line cause) = RefusesChanges words files line cause × (after ≡ before)
 Comes words files before after (BadLine file line) = RefusesSecond words files file line × (after ≡ before)
 Comes words files before after (FalseLine line) = RefutesCertificate words files line × (after ≡ before)
@@ -229,7 +237,7 @@ Comes words files before after (Dumped left) = AsksLoaded Dump words (HoldsIn fi
 Comes words files before after (Replayed events turns dump entries) = AsksBoth words files events turns dump entries × (after ≡ before)
 Comes words files before after (Served asks end) = AsksServe words files asks end × (after ≡ before)
 Comes words files before after (Answered text) = AsksAnswer words (HoldsIn files) text × (after ≡ before)
-Comes words files before after (Explained line cause content) = ExplainsData words files line cause content × (after ≡ before)
+Comes words files before after (Explained line cause content) = ExplainsData words (HoldsIn files) line cause content × (after ≡ before)
 Comes words files before after (Sampled text) = Samples words text × (after ≡ before)
 Comes words files before after OutOfMemory = after ≡ before
 
@@ -265,8 +273,9 @@ Links words OutOfMemory before after = MayOpenStore words before after
 unfoldable pub HearsStop : Option (List Item) → Option (List Item) → Type 0
 HearsStop before after = (begun : List Item) × (added : List Item) × (before ≡ Some begun) × (after ≡ Some (begun ++ added)) × (was_stopped added ≡ true)
 
--- the outcome that is due where the words are a command whose files the shelf tells, and which are accepted; serving is
--- done where neither the link nor its store failed, and it gave Stop, and a sample reads no file
+-- the outcome that is due where the words are a command whose files the shelf tells, and which are accepted, or of whose data
+-- file they ask why it isn't; serving is done where neither the link nor its store failed, and it gave Stop, and a sample reads
+-- no file
 unfoldable pub IsDue : List (List ℕ) → Option Files → Linked → Linked → Outcome → Type 0
 IsDue words files old new NoCommand = ⊥
 IsDue words files old new NoFile = ⊥
@@ -284,6 +293,6 @@ IsDue words files old new (Served asks end) =
     × IsLoadedFrom (IsTold files) asks.serving.data_file asks.serving.changes asks.content asks.left
     × (Rose old.faults new.faults → ⊥) × (Rose old.store_faults new.store_faults → ⊥) × HearsStop old.journal new.journal
 IsDue words files old new (Answered text) = AsksAnswer words (IsTold files) text
-IsDue words files old new (Explained line cause content) = ⊥
+IsDue words files old new (Explained line cause content) = ExplainsData words (IsTold files) line cause content
 IsDue words files old new (Sampled text) = Samples words text
 IsDue words files old new OutOfMemory = ⊥

@@ -1,13 +1,13 @@
 -- Serving over a link (RFC 4511 5.3): its store is made ready where changes are to be kept, it is opened at an address, a line
 -- says so, and then the loop serves its connections.
-use Rattle.std.specs.Prelude.{ℕ, List, [], ◌++◌, Option, Some, None, is_some, Result, Ok, Err, codes, decimal}
+use Rattle.std.specs.Prelude.{ℕ, ◌*◌, ◌-◌, ◌^◌, min, List, [], ◌++◌, Option, Some, None, is_some, Result, Ok, Err, codes, decimal}
 use Rattle.command_files.specs.plain_values.Counts.{NeverFalls}
 use Rattle.command_files.specs.wire_io.declared.answers.NextFault.{NextFault}
 use Rattle.command_files.specs.wire_io.declared.answers.NextFault.TheVariants as next
 use Rattle.command_files.specs.wire_io.link.Telling.{OpenTells}
 use Rattle.session_hub.specs.declared.ended.Ended.{Ended}
 use Rattle.session_hub.specs.declared.ended.Ended.TheVariants as ended
-use Rattle.session_hub.specs.declared.bounds.Terms.{Terms}
+use Rattle.session_hub.specs.declared.bounds.Bounds.{Bounds}
 use Rattle.session_hub.specs.serve.Loops.{Serves, Starves, PlaysOut, EndsFor}
 use Rattle.command_words.specs.command.Command.{ServingView}
 use Rattle.command_files.specs.dir_tree.Entry.{EntryInformation}
@@ -90,19 +90,24 @@ changes_read end changes = changes
 abbrev pub Opens : ServingView → Result (Unit {0}) NextFault → Linked → Linked → Type 0
 Opens serving answer before after = Gives (λ old given new. OpenTells old serving.address serving.sessions given new) (λ link. link.faults) (λ link. link.store_faults) answer before after
 
--- the terms that the words ask for: a limit on searches, and that changes are stored where a file of changes is named
-abbrev pub terms_of : ServingView → Terms
-terms_of serving = record { limit = serving.limit; keeps = is_some serving.changes }
+-- so many MiB in octets, or as many as a number of 64 bits counts
+abbrev pub octets_of : ℕ → ℕ
+octets_of mebibytes = min (mebibytes * 1048576) (2 ^ 64 - 1)
 
--- the open link was served over the entries, by rules of the terms that the words ask for, and the loop ended so, for want of
+-- the bounds that the words ask for: a limit on searches, that changes are stored where a file of changes is named, and how
+-- many octets all queues may have
+abbrev pub bounds_of : ServingView → Bounds
+bounds_of serving = record { terms = record { limit = serving.limit; keeps = is_some serving.changes }; queues = octets_of serving.queues }
+
+-- the open link was served over the entries, by rules of the bounds that the words ask for, and the loop ended so, for want of
 -- memory with a cause alone
 pub record ServesUntil (asked : ServeAsked) (how : Ended) (before after : Linked) : Type 0 where
   pub left : List EntryInformation
-  pub served : Serves (terms_of asked.serving) asked.left.entries left asked.serving.turns before.journal how after.journal
+  pub served : Serves (bounds_of asked.serving).terms asked.left.entries left asked.serving.turns before.journal how after.journal
   pub plays : PlaysOut asked.serving.turns before.journal before.plan how after.journal after.plan
-  pub cause : EndsFor (is_some asked.serving.changes) before.plan before.faults after.faults before.store_faults after.store_faults how
+  pub cause : EndsFor (bounds_of asked.serving).terms.keeps before.plan before.faults after.faults before.store_faults after.store_faults how
   pub lost : NeverFalls before.lost after.lost
-  pub memory : Starves (terms_of asked.serving) asked.left.entries left before.journal before.refusals how after.journal after.refusals
+  pub memory : Starves (bounds_of asked.serving).terms asked.left.entries left before.journal before.refusals how after.journal after.refusals
   pub refusals : NeverFalls before.refusals after.refusals
 
 -- what was done with the link once its store was ready: one `open`, and where that was answered Ok and the lines were put,

@@ -41,7 +41,7 @@ both_fail (Some files) name P Q known fails = both_of (file_of name files) P Q k
 pub good_not_refused : (entries : List EntryInformation) (line : ℕ) (cause : FileCause) (content : List ℕ) → IsGoodData entries content → IsBadData line cause content → ⊥
 unfolding IsBadData
 good_not_refused entries line cause content good (inl bad) = cc (good.loaded, bad.1)
-good_not_refused entries line cause content good (inr long) = omega (arith, good.short, long.0)
+good_not_refused entries line cause content good (inr long) = omega (arith, good.short, long.0.0)
 
 pub one_entries : (entries other : List EntryInformation) (content : List ℕ) → IsGoodData entries content → IsGoodData other content → entries ≡ other
 one_entries entries other content good good_other = cc (good.loaded, good_other.loaded)

@@ -28,7 +28,7 @@ use Rattle.data_file.specs.declared.fault.DataFault.{DataFault}
 use Rattle.data_file.specs.declared.fault.DataFault.TheVariants as loading
 use Rattle.wire_io.specs.plain_values.Answers.{IsFaultOf}
 use Rattle.data_file.specs.Files.{cause_of, fault_of}
-use Rattle.command_files.specs.loading.Accepting.{HoldsOf, HoldsIn, FailsIn, IsUnread, IsBadData, IsGoodData, IsTooLong, IsBadScript, IsGoodScript, IsBadRequests, IsGoodRequests, IsContent, most_data, most_second}
+use Rattle.command_files.specs.loading.Accepting.{HoldsOf, HoldsIn, FailsIn, IsUnread, IsBadData, IsGoodData, IsLongData, IsTooLong, IsBadScript, IsGoodScript, IsBadRequests, IsGoodRequests, IsContent, most_data, most_second}
 use Rattle.command_files.specs.loading.Loading.{IsRefused, IsMisread, LoadsCertificate, LoadsRequests, LoadsScript, LoadsContent, LoadsData, LoadsFile, ReadsRequests, ReadsScript, ReadsData, ReadsFile, data_trouble_of_file, trouble_of_asks, trouble_of_data, trouble_of_file, trouble_of_script}
 
 -- what holds of the content that was given holds of the file, where the shelf tells
@@ -191,15 +191,11 @@ pub LoadsContent-read :
 unfolding LoadsContent ReadCause
 LoadsContent-read files name before after text short gives stays = (HoldsIn-given files name text.items (λ content. content ≡ text.items) gives refl, short, stays)
 
-pub LoadsContent-untaken : (files : Option Files) (name : List ℕ) (before after : ℕ) (why : Trouble) → LoadsData files name before after (Err why) → LoadsContent files name before after (Err why)
-unfolding LoadsContent
-LoadsContent-untaken files name before after why loads = loads
-
 -- a file that is too long is not accepted
 data_too_long : (file : Option (List ℕ)) (line : ℕ) → IsLongerFile file most_data line → HoldsOf (IsBadData line (OfRecord Limit)) file
 unfolding IsLongerFile IsBadData
 data_too_long None line longer = absurd longer
-data_too_long (Some content) line longer = inr (longer.0, longer.1, refl)
+data_too_long (Some content) line longer = inr ((longer.0, longer.1), refl)
 
 LoadsData-too_long :
     (files : Option Files) (name : List ℕ) (before after line : ℕ)
@@ -217,6 +213,26 @@ LoadsData-refused T files name before after read.Absent cause = inr cause
 LoadsData-refused T files name before after read.Failed cause = inl cause
 LoadsData-refused T files name before after (read.TooLong line) cause = LoadsData-too_long files name before after line cause.0 cause.1
 LoadsData-refused T files name before after read.NoMemory cause = cause
+
+-- its content is longer than a data file may be
+long_content : (file : Option (List ℕ)) (line : ℕ) → IsLongerFile file most_data line → HoldsOf (IsLongData line) file
+unfolding IsLongerFile
+long_content None line longer = absurd longer
+long_content (Some content) line longer = (longer.0, longer.1)
+
+content_too_long : (files : Option Files) (name : List ℕ) (line : ℕ) → IsLonger files name most_data line → FailsIn files name (IsLongData line)
+unfolding IsLonger FailsIn
+content_too_long None name line longer = tt
+content_too_long (Some files) name line longer = long_content (file_of name files) line longer
+
+pub LoadsContent-refused :
+    (T : Type 0) (files : Option Files) (name : List ℕ) (before after : ℕ) (fault : ReadFault)
+    → ReadCause {T = T} files name most_data before after (Err fault) → LoadsContent files name before after (Err (data_trouble_of_file fault))
+unfolding LoadsContent ReadCause IsUnread
+LoadsContent-refused T files name before after read.Absent cause = inr cause
+LoadsContent-refused T files name before after read.Failed cause = inl cause
+LoadsContent-refused T files name before after (read.TooLong line) cause = (content_too_long files name line cause.0, refl, cause.1)
+LoadsContent-refused T files name before after read.NoMemory cause = cause
 
 -- the text isn't accepted
 pub ReadsData-refused :

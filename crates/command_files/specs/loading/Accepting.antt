@@ -36,12 +36,17 @@ pub record IsGoodData (entries : List EntryInformation) (content : List ℕ) : T
   pub short : length content ≤ most_data
   pub loaded : loads content ≡ Ok entries
 
--- the content isn't accepted, for this cause at this line; or it is too long, and this is the line of the first octet past
--- the limit
+-- the content isn't accepted, for this cause at this line, and is not too long
+abbrev pub IsFaultyData : ℕ → FileCause → List ℕ → Type 0
+IsFaultyData line cause content = (length content ≤ most_data) × (loads content ≡ Err (record { line = line; cause = cause }))
+
+-- the content is longer than a data file may be, and this is the line of the first octet past the limit
+abbrev pub IsLongData : ℕ → List ℕ → Type 0
+IsLongData line content = (most_data < length content) × (line ≡ line_past (take most_data content))
+
+-- the content isn't accepted, for this cause at this line; or it is too long
 unfoldable pub IsBadData : ℕ → FileCause → List ℕ → Type 0
-IsBadData line cause content =
-    ((length content ≤ most_data) × (loads content ≡ Err (record { line = line; cause = cause })))
-    ⊎ ((most_data < length content) × (line ≡ line_past (take most_data content)) × (cause ≡ OfRecord load.Limit))
+IsBadData line cause content = IsFaultyData line cause content ⊎ (IsLongData line content × (cause ≡ OfRecord load.Limit))
 
 -- the content is longer than a second file may be, and this is the line of the first octet past the limit
 abbrev pub IsTooLong : ℕ → List ℕ → Type 0

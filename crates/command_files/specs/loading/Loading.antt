@@ -29,7 +29,7 @@ use Rattle.command_files.specs.declared.changing.ChangesCause.TheVariants as cha
 use Rattle.command_files.specs.declared.changing.ChangesFault.{ChangesFault}
 use Rattle.command_files.specs.declared.changing.ChangesFault.TheVariants as changing
 use Rattle.command_files.specs.loading.Changing.{changed_by, left_of}
-use Rattle.command_files.specs.loading.Accepting.{IsUnread, HoldsIn, FailsIn, IsBadBeside, IsBadChanges, IsBadData, IsGoodChanges, IsGoodData, IsLoaded, IsUnreadBeside, IsTooLong, IsBadScript, IsGoodScript, IsBadRequests, IsGoodRequests, IsContent, most_data}
+use Rattle.command_files.specs.loading.Accepting.{IsUnread, HoldsIn, FailsIn, IsBadBeside, IsBadChanges, IsBadData, IsGoodChanges, IsGoodData, IsLoaded, IsLongData, IsUnreadBeside, IsTooLong, IsBadScript, IsGoodScript, IsBadRequests, IsGoodRequests, IsContent, most_data}
 
 -- the data file of the name was loaded, or why not
 unfoldable pub LoadsData : Option Files → List ℕ → ℕ → ℕ → Result (List Numbered) Trouble → Type 0
@@ -60,11 +60,17 @@ LoadsFile files name before after (Ok file) =
     HoldsIn files name (λ content. content ≡ file.content.items) × ReadsData file.content.items (Ok file.tree) × (after ≡ before)
 LoadsFile files name before after (Err why) = LoadsData files name before after (Err why)
 
--- the octets of the data file of the name were read, which are at most as many as it may have, or why not
+-- the octets of the data file of the name were read, which are at most as many as it may have, or why not: it wasn't read, or
+-- is too long
 unfoldable pub LoadsContent : Option Files → List ℕ → ℕ → ℕ → Result (Vec ℕ Global) Trouble → Type 0
 LoadsContent files name before after (Ok octets) =
     HoldsIn files name (λ content. content ≡ octets.items) × (length octets.items ≤ most_data) × (after ≡ before)
-LoadsContent files name before after (Err why) = LoadsData files name before after (Err why)
+LoadsContent files name before after (Err trouble.NoFile) = IsUnread files name before after
+LoadsContent files name before after (Err (trouble.BadData line cause)) =
+    FailsIn files name (IsLongData line) × (cause ≡ DataCause.Record Limit) × (after ≡ before)
+LoadsContent files name before after (Err (trouble.BadLine kind line)) = ⊥
+LoadsContent files name before after (Err (trouble.BadChanges line cause)) = ⊥
+LoadsContent files name before after (Err trouble.NoMemory) = after ≡ before
 
 -- why a file that is read after the data file isn't taken, where a line of it is bad in this sense
 unfoldable pub IsRefused : SecondFile → (ℕ → List ℕ → Type 0) → Option Files → List ℕ → ℕ → ℕ → Trouble → Type 0

@@ -11,4 +11,4 @@ returns-in-Ok-clause-performs g c = λ link. Performs-after _ _ _ _ _ _ (written
 
 -- it wasn't
 pub returns-in-Err-clause-performs : goal.returns-in-Err-clause-performs
-returns-in-Err-clause-performs g c = λ link. Performs-refused (Ask c.args.asked.now.data.now c.args.asked.now.requests.now c.args.asked.now.script) c.args.asked.now.data.now (outside _ _ _ _ link) (outside _ _ _ _ link) _ _ refl c.in-Err.ensures.exact c.print_trouble.ensures.ends refl
+returns-in-Err-clause-performs g c = λ link. Performs-refused (Ask c.args.asked.now.data.now c.args.asked.now.requests.now c.args.asked.now.script) c.args.asked.now.data.now (outside _ _ _ _ link) (outside _ _ _ _ link) _ _ refl refl c.in-Err.ensures.exact c.print_trouble.ensures.ends refl

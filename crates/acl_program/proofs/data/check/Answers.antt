@@ -11,4 +11,4 @@ returns-in-Ok-clause-performs g c = λ link. Performs-checked _ _ (outside _ _ _
 -- they weren't
 pub returns-in-Err-clause-performs : goal.returns-in-Err-clause-performs
 returns-in-Err-clause-performs g c = λ link.
-    Performs-tree_refused (Check c.args.asked.now.data.now (option_copied c.args.asked.now.changes)) c.args.asked.now.data.now (outside _ _ _ _ link) (outside _ _ _ _ link) _ _ refl c.in-Err.ensures.exact c.print_trouble.ensures.ends refl refl
+    Performs-tree_refused (Check c.args.asked.now.data.now (option_copied c.args.asked.now.changes)) c.args.asked.now.data.now (outside _ _ _ _ link) (outside _ _ _ _ link) _ _ refl refl c.in-Err.ensures.exact c.print_trouble.ensures.ends refl refl

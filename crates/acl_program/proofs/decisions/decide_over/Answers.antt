@@ -1,7 +1,7 @@
 use Rattle.std.proofs.Common.{refl}
 use Rattle.acl_program.specs.Deciding.{decision_asked}
 use Rattle.acl_program.specs.program.Outside.{outside}
-use Rattle.acl_program.proofs.decisions.DecisionLemmas.{Performs-decided, decision_data}
+use Rattle.acl_program.proofs.decisions.DecisionLemmas.{Performs-decided, decision_data, decision_other}
 use Rattle.acl_program.proofs.program.PerformLemmas.{Performs-refused}
 use Rattle.acl_program.proofs.decisions.decide_over.Goals as goal
 
@@ -13,4 +13,4 @@ returns-in-Ok-clause-performs g c = λ link who target item permission asks.
 -- it wasn't
 pub returns-in-Err-clause-performs : goal.returns-in-Err-clause-performs
 returns-in-Err-clause-performs g c = λ link who target item permission asks.
-    Performs-refused (decision_asked c.args.account c.args.name.now who target item permission) c.args.name.now (outside _ _ _ _ link) (outside _ _ _ _ link) _ _ (decision_data _ _ _ _ _ _) c.in-Err.ensures.exact c.print_trouble.ensures.ends refl
+    Performs-refused (decision_asked c.args.account c.args.name.now who target item permission) c.args.name.now (outside _ _ _ _ link) (outside _ _ _ _ link) _ _ (decision_other _ _ _ _ _ _) (decision_data _ _ _ _ _ _) c.in-Err.ensures.exact c.print_trouble.ensures.ends refl

@@ -17,4 +17,4 @@ returns-in-Ok-clause-performs g c = λ link. Performs-after _ _ _ _ _ _ (written
 -- it wasn't
 pub returns-in-Err-clause-performs : goal.returns-in-Err-clause-performs
 returns-in-Err-clause-performs g c = λ link. Performs-refused (Replay c.args.asked.now.data.now c.args.asked.now.script.now c.args.asked.now.turns c.args.asked.now.dump)
-    c.args.asked.now.data.now (outside _ _ _ _ link) (outside _ _ _ _ link) _ _ refl c.in-Err.ensures.exact c.print_trouble.ensures.ends refl
+    c.args.asked.now.data.now (outside _ _ _ _ link) (outside _ _ _ _ link) _ _ refl refl c.in-Err.ensures.exact c.print_trouble.ensures.ends refl

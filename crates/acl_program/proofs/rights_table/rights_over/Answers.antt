@@ -13,4 +13,4 @@ returns-in-Ok-clause-performs g c = λ link who target is_who is_target.
 -- it wasn't
 pub returns-in-Err-clause-performs : goal.returns-in-Err-clause-performs
 returns-in-Err-clause-performs g c = λ link who target is_who is_target.
-    Performs-refused (Rights c.args.name.now who target) c.args.name.now (outside _ _ _ _ link) (outside _ _ _ _ link) _ _ refl c.in-Err.ensures.exact c.print_trouble.ensures.ends refl
+    Performs-refused (Rights c.args.name.now who target) c.args.name.now (outside _ _ _ _ link) (outside _ _ _ _ link) _ _ refl refl c.in-Err.ensures.exact c.print_trouble.ensures.ends refl

@@ -11,11 +11,11 @@ returns g c = record {
     answer = c.write_all-put.result;
     serves = record {
       left = _;
-      served = rw c.bounds_of.ensures.terms at c.serve_loop-ended.ensures.served;
+      served = rw c.bounds_of.ensures.exact at c.serve_loop-ended.ensures.served;
       plays = c.serve_loop-ended.ensures.plays;
-      cause = rw c.bounds_of.ensures.terms at c.serve_loop-ended.ensures.cause;
+      cause = rw c.bounds_of.ensures.exact at c.serve_loop-ended.ensures.cause;
       lost = c.serve_loop-ended.ensures.lost;
-      memory = rw c.bounds_of.ensures.terms at c.serve_loop-ended.ensures.memory;
+      memory = rw c.bounds_of.ensures.exact at c.serve_loop-ended.ensures.memory;
       refusals = c.serve_loop-ended.ensures.refusals;
     };
     ends = c.after.ensures.exact ∙ ap (λ wanted. settled c.write_all-put.result wanted) c.loop_status.ensures;

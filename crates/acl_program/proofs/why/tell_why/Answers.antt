@@ -1,8 +1,6 @@
 use Rattle.std.proofs.Common.{refl}
-use Rattle.command_words.specs.command.Command.{Why}
 use Rattle.acl_program.specs.program.Outside.{outside}
-use Rattle.acl_program.proofs.program.PerformLemmas.{Performs-refused}
-use Rattle.acl_program.proofs.why.WhyLemmas.{LoadsContent-short, LoadsContent-unread, Performs-why}
+use Rattle.acl_program.proofs.why.WhyLemmas.{LoadsContent-short, Performs-unexplained, Performs-why}
 use Rattle.acl_program.proofs.why.tell_why.Goals as goal
 
 -- a file that was read is not too long
@@ -16,4 +14,4 @@ returns-in-Ok-clause-performs g c = λ link. Performs-why _ _ (outside _ _ _ _ l
 -- it wasn't
 pub returns-in-Err-clause-performs : goal.returns-in-Err-clause-performs
 returns-in-Err-clause-performs g c = λ link.
-    Performs-refused (Why c.args.name.now) c.args.name.now (outside _ _ _ _ link) (outside _ _ _ _ link) _ _ refl (LoadsContent-unread _ _ _ _ _ c.in-Err.ensures.exact) c.print_trouble.ensures.ends refl
+    Performs-unexplained c.args.name.now (outside _ _ _ _ link) (outside _ _ _ _ link) _ _ c.in-Err.ensures.exact c.print_trouble.ensures.ends refl

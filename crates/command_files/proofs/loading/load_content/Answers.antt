@@ -1,5 +1,5 @@
 use Rattle.std.proofs.Common.{arith}
-use Rattle.command_files.proofs.loading.LoadLemmas.{LoadsContent-read, LoadsContent-untaken, LoadsData-refused}
+use Rattle.command_files.proofs.loading.LoadLemmas.{LoadsContent-read, LoadsContent-refused}
 use Rattle.command_files.proofs.loading.load_content.Goals as goal
 
 -- the file was read
@@ -8,4 +8,4 @@ returns-in-Ok-clause-exact g c = LoadsContent-read _ _ _ _ _ (omega (arith, c.in
 
 -- it wasn't
 pub returns-in-Err-clause-exact : goal.returns-in-Err-clause-exact
-returns-in-Err-clause-exact g c = rw c.unread_data.ensures.exact (LoadsContent-untaken _ _ _ _ _ (LoadsData-refused _ _ _ _ _ _ c.in-Err.ensures.cause))
+returns-in-Err-clause-exact g c = rw c.unread_data.ensures.exact (LoadsContent-refused _ _ _ _ _ _ c.in-Err.ensures.cause)
