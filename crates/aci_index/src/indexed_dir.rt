@@ -1,7 +1,10 @@
 //! A directory that keeps what decisions need, and changes it by small steps.
 
-ghost use Rattle.std.specs.Prelude.{◌≡◌, IfOk, map};
-ghost use Rattle.dir_tree.specs.tree.Numbered.{ids_of, subentry_rows};
+ghost use Rattle.std.specs.Prelude.{◌≡◌, Some, IfOk, map};
+ghost use Rattle.dir_tree.specs.tree.Numbered.{entry_of, entries_of, ids_of, subentry_rows};
+ghost use Rattle.acdf_filters.specs.Asking.{protected_of};
+ghost use Rattle.acdf_filters.specs.Granted.{granted};
+ghost use Rattle.acdf_filters.specs.weighing.Weighing.{AreMemberships};
 
 use crate::posting::{insert_posted, remove_posted, replace_posted};
 use acdf_filters::aci_item::Permission;
@@ -53,6 +56,33 @@ impl IndexedDir {
     {
         self.tree.access_subentries()
     }
+
+    // Whether the requester has the permission for the item of an entry, which has the number.
+    #[tactic(auto, unfolding(acdf_filters::specs::Granted::granted))]
+    fn decide_entry<'a>(
+        &'a self,
+        who: &'a Requester,
+        known: &'a [Membership],
+        number: EntryNo,
+        entry: &'a Entry,
+        item: Item<'a>,
+        permission: Permission,
+    ) -> bool
+        requires known { AreMemberships (entries_of self.now) who.now.name known.now }
+        requires entry { entry_of number.0 self.now ≡ Some entry.now }
+        ensures exact { result ≡ granted (entries_of self.now) who.now entry.now (protected_of item.entry) permission }
+    {
+        let question = Question {
+            who,
+            entry,
+            item,
+            permission,
+            after: None,
+            tree: &self.tree,
+            known,
+        };
+        decide_by(&question, &self.held.lists, number)
+    }
 }
 
 impl Dir for IndexedDir {
@@ -62,7 +92,6 @@ impl Dir for IndexedDir {
         &self.tree
     }
 
-    #[tactic(auto, unfolding(acdf_filters::specs::Granted::granted))]
     fn decide(
         &self,
         who: &Requester,
@@ -71,16 +100,7 @@ impl Dir for IndexedDir {
         item: Item<'_>,
         permission: Permission,
     ) -> bool {
-        let question = Question {
-            who,
-            entry: target.entry,
-            item,
-            permission,
-            after: None,
-            tree: &self.tree,
-            known,
-        };
-        decide_by(&question, &self.held.lists, target.number)
+        self.decide_entry(who, known, target.number, target.entry, item, permission)
     }
 
     #[tactic(auto, unfolding(acdf_filters::specs::Granted::granted_after))]

@@ -85,7 +85,7 @@ fn check<'a>(
     alloc: Global,
     tree: &'a Tree,
     asked: &'a AskedDecision,
-    found: Target<'a>,
+    found: NumberedEntry<'a>,
     text: &[u8],
 ) -> Result<bool, CertFault>
     requires { entry_of found.number.0 tree.now ≡ Some found.entry.now }

@@ -1,5 +1,5 @@
 -- How a change of an entry is taken step by step: what a call answers for each step.
-use Rattle.std.specs.Prelude.{◌≡◌, ℕ, not, List, [], ◌∷◌, Option, Some, None}
+use Rattle.std.specs.Prelude.{◌≡◌, ℕ, not, List, [], ◌∷◌, Option, Some}
 use Rattle.dir_tree.specs.Entry.{EntryInformation}
 use Rattle.dir_tree.specs.tree.Trees.{has_name, has_below, put_in, taken_out}
 use Rattle.dir_tree.specs.tree.Numbered.{Numbered, entries_of, entry_of}

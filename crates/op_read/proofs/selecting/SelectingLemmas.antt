@@ -19,7 +19,7 @@ use Rattle.ldap_msg.specs.declared.kinds.SearchScope.TheVariants.{BaseObject, Si
 use Rattle.ldap_msg.specs.declared.kinds.SearchRequest.{SearchRequest}
 use Rattle.ldap_msg.specs.declared.kinds.Reply.TheVariants as reply
 use Rattle.page_core.specs.read_model.Views as views
-use Rattle.page_core.specs.read_model.Views.{Row, View, hidden}
+use Rattle.page_core.specs.read_model.Views.{hidden}
 use Rattle.page_core.specs.read_model.SearchReplies.{found_replies, replies_at}
 use Rattle.page_core.specs.read_model.Selecting.{takes_in, is_shown, is_selected, selected}
 use Rattle.page_core.specs.Starts.{is_after}

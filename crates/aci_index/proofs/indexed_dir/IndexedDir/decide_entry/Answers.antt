@@ -2,7 +2,7 @@
 use Rattle.std.proofs.Common.{List, sym, subst}
 use Rattle.aci_lists.specs.declared.kept.Kept.{Kept}
 use Rattle.aci_lists.specs.kept.Lists.{IsKept}
-use Rattle.aci_index.proofs.indexed_dir.IndexedDirDir.decide.Goals as goal
+use Rattle.aci_index.proofs.indexed_dir.IndexedDir.decide_entry.Goals as goal
 
 pub decide_by-requires-clause-kept : goal.decide_by-requires-clause-kept
 decide_by-requires-clause-kept c =
