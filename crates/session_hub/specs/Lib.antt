@@ -6,6 +6,7 @@ pub mod Limiting
 pub mod WhoAmI
 pub mod Answering
 pub mod Rooms
+pub mod FirstAnswers
 pub mod connection
 pub mod hub
 pub mod Event
@@ -15,6 +16,7 @@ pub mod serve
 pub mod Outgoing
 pub mod Answers
 pub mod SimpleBinds
+pub mod Plain
 pub mod Telling
 pub mod Adding
 pub mod Waits
