@@ -37,11 +37,7 @@ fn element_with(tag: u8, octets: &[u8]) -> Option<Element<'_>>
     ensures { Finds piece_view result (tagged_at tag octets.now) }
 {
     let found = first_element(octets)?;
-    if found.tag == tag {
-        Some(found)
-    } else {
-        None
-    }
+    if found.tag == tag { Some(found) } else { None }
 }
 
 /// The number from `low` to `high` that is the content of an INTEGER.
@@ -87,9 +83,7 @@ fn has_no_controls(octets: &[u8]) -> bool
         return is_further_but(CONTROLS, octets);
     }
     match element_with(CONTROLS, octets) {
-        Some(controls) => {
-            controls.content.is_empty() && is_further_but(CONTROLS, controls.rest)
-        }
+        Some(controls) => { controls.content.is_empty() && is_further_but(CONTROLS, controls.rest) }
         None => false,
     }
 }

@@ -73,6 +73,7 @@ none_before id tag body octets other = by_list (optional_of 0xa0 (reads controls
         simple_in (message_before id (tag, body) octets) ≡ None
     by_rest found true list after = rw (list, after) (other_request id (controls_from found.value) tag body other)
     by_rest found false list after = rw (list, after) refl
+
     by_list : (found : Option (Component (Option (Value controls_layout)))) → optional_of 0xa0 (reads controls_layout) octets ≡ found → simple_in (message_before id (tag, body) octets) ≡ None
     by_list None list = rw list refl
     by_list (Some found) list = by_rest found (are_pieces (other_than 0xa0) found.rest) list refl
@@ -109,6 +110,7 @@ message_simple (Some message) id name password is = by_controls message.controls
         let all : (message.id, credentials) ≡ (id, (name, password)) = cc in
         let is_bind : bind ≡ with_password name password = bind_simple bind name password (has ∙ ap (λ (x : ℕ × Credentials). Some x.1) all) in
         ap₃ (λ n r cs. record { id = n; request = r; controls = cs }) (ap (λ (x : ℕ × Credentials). x.0) all) (asked ∙ ap (λ b. request.Bind b) is_bind) empty
+
     by_request : (asked : Request) → message.request ≡ asked → message.controls ≡ [] → numbered message.id (credentials_in asked) ≡ Some (id, (name, password)) →
         message ≡ simple_message id name password
     by_request (request.Bind bind) asked empty same = by_found bind (credentials_of (Some bind)) refl empty asked same
@@ -121,6 +123,7 @@ message_simple (Some message) id name password is = by_controls message.controls
     by_request (request.Compare compare) asked empty same = absurd (let none : None ≡ Some (id, (name, password)) = same in cc)
     by_request (request.Abandon number) asked empty same = absurd (let none : None ≡ Some (id, (name, password)) = same in cc)
     by_request (request.Extended kind value) asked empty same = absurd (let none : None ≡ Some (id, (name, password)) = same in cc)
+
     by_controls : (controls : List Control) → message.controls ≡ controls → Some message ≡ Some (simple_message id name password)
     by_controls [] empty = ap Some (by_request message.request refl empty (rw empty at is))
     by_controls (control ∷ controls) some = absurd (let none : None ≡ Some (id, (name, password)) = rw some at is in cc)

@@ -48,9 +48,11 @@ controls_some octet octets parts is = by_tag (octet == 0x30) refl
         each_from (length octets) 0x30 (reads control_layout) found.rest ≡ others → octet == 0x30 ≡ true → HasFirst parts.0
     by_others found None first then_ tag = absurd (let none : None ≡ Some parts = rw (tag, first, then_) at is in cc)
     by_others found (Some others) first then_ tag = end_some found others (length others.rest == 0) parts (rw (tag, first, then_) at is)
+
     by_first : (found : Option (Component (Value control_layout))) → required_of 0x30 (reads control_layout) (octet ∷ octets) ≡ found → octet == 0x30 ≡ true → HasFirst parts.0
     by_first None first tag = absurd (let none : None ≡ Some parts = rw (tag, first) at is in cc)
     by_first (Some found) first tag = by_others found (each_from (length octets) 0x30 (reads control_layout) found.rest) first refl tag
+
     by_tag : (b : Bool) → octet == 0x30 ≡ b → HasFirst parts.0
     by_tag true tag = by_first (required_of 0x30 (reads control_layout) (octet ∷ octets)) refl tag
     by_tag false tag = absurd (let none : None ≡ Some parts = rw (tag, not_empty octet octets) at is in cc)
@@ -66,9 +68,11 @@ no_controls id operation octets none = by_begin (begins 0xa0 octets) refl
         let after : are_pieces (other_than 0xa0) piece.rest ≡ true = rw (first, found, empty) at none in
         rw (first, found, empty, after) refl
     by_content piece (octet ∷ content) some found first = absurd (let no : false ≡ true = rw (first, found, some, not_empty octet content) at none in cc)
+
     by_piece : (piece : Option Piece) → tagged_at 0xa0 octets ≡ piece → begins 0xa0 octets ≡ true → message_before id operation octets ≡ with_controls id [] (request_of operation)
     by_piece None found first = absurd (let no : false ≡ true = rw (first, found) at none in cc)
     by_piece (Some piece) found first = by_content piece piece.content refl found first
+
     by_begin : (b : Bool) → begins 0xa0 octets ≡ b → message_before id operation octets ≡ with_controls id [] (request_of operation)
     by_begin true first = by_piece (tagged_at 0xa0 octets) refl first
     by_begin false first = let after : are_pieces (other_than 0xa0) octets ≡ true = rw first at none in rw (first, after) refl
@@ -88,17 +92,21 @@ other_controls id operation octets none = by_begin (begins 0xa0 octets) refl
     by_content piece [] parts empty found first list after = absurd (let no : true ≡ false = rw (first, found, empty, after) at none in cc)
     by_content piece (octet ∷ content) parts some found first list after =
         rw (first, found, list, after) (listed id parts.0 (request_of operation) (controls_some octet content parts (rw some at list)))
+
     by_rest : (piece : Piece) (parts : Value controls_layout) (b : Bool) → tagged_at 0xa0 octets ≡ Some piece → begins 0xa0 octets ≡ true → reads controls_layout piece.content ≡ Some parts →
         are_pieces (other_than 0xa0) piece.rest ≡ b → simple_in (message_before id operation octets) ≡ None
     by_rest piece parts false found first list after = rw (first, found, list, after) refl
     by_rest piece parts true found first list after = by_content piece piece.content parts refl found first list after
+
     by_list : (piece : Piece) (parts : Option (Value controls_layout)) → tagged_at 0xa0 octets ≡ Some piece → begins 0xa0 octets ≡ true → reads controls_layout piece.content ≡ parts →
         simple_in (message_before id operation octets) ≡ None
     by_list piece None found first list = rw (first, found, list) refl
     by_list piece (Some parts) found first list = by_rest piece parts (are_pieces (other_than 0xa0) piece.rest) found first list refl
+
     by_piece : (piece : Option Piece) → tagged_at 0xa0 octets ≡ piece → begins 0xa0 octets ≡ true → simple_in (message_before id operation octets) ≡ None
     by_piece None found first = rw (first, found) refl
     by_piece (Some piece) found first = by_list piece (reads controls_layout piece.content) found first refl
+
     by_begin : (b : Bool) → begins 0xa0 octets ≡ b → simple_in (message_before id operation octets) ≡ None
     by_begin true first = by_piece (tagged_at 0xa0 octets) refl first
     by_begin false first = let after : are_pieces (other_than 0xa0) octets ≡ false = rw first at none in rw (first, after) refl

@@ -28,6 +28,7 @@ returns-clause-message c = by_found c.bind_in.result c.bind_in.ensures.exact
   where
     same : simple_in (message_of c.args.bytes.now) ≡ simple_in (message_in c.in_ok-outer.outer.content.now)
     same = search rules
+
     by_found : (found : Option SimpleBind) → Finds (λ (bind : SimpleBind). (bind.id, (bind.name.now, bind.password.now))) found (simple_in (message_in c.in_ok-outer.outer.content.now)) →
         IfSome found (λ bind. message_of c.args.bytes.now ≡ Some (message_for bind))
     by_found None exact = tt

@@ -55,10 +55,11 @@ pub messages-preserved : goal.messages-preserved
 messages-preserved g c =
     let rest = drop c.messages.read c.args.stream.now in
     let is : frame_at rest ≡ Whole c.in-Whole.length = ap frame_at (sym c.split_at.ensures.back) ∙ sym c.in-Whole.ensures.exact in
-    let same : c.split_at-in-Whole.result.0.now ≡ take c.in-Whole.length rest = c.split_at-in-Whole.ensures.front ∙ ap (take c.in-Whole.length) c.split_at.ensures.back in
-    (so_far_whole c.args.allowed.terms c.args.allowed.room _ _ _ _ (put_in c.messages.out) _ _ _ _ _ _ _ c.in-Whole.length c.messages.invariant.0 is
-    (subst (λ bytes. Gives ((rules c.args.allowed.terms).answer (entries_of (g.D.Dir.rows c.messages.dir)) c.messages.who bytes) (put_in c.messages.out) (put_in c.answer.new.out) (entries_of (g.D.Dir.rows c.answer.new.dir)) c.answer.new.who false) same (rw c.in-Ok-false.field-0-test at c.in-Ok-false.ensures.ok)) (c.is_full.ensures.spare c.if-is_full.false),
-    λ none. absurd (omega arith))
+    let same : c.split_at-in-Whole.result.0.now ≡ take c.in-Whole.length rest = c.split_at-in-Whole.ensures.front ∙ ap (take c.in-Whole.length) c.split_at.ensures.back in (
+      so_far_whole c.args.allowed.terms c.args.allowed.room _ _ _ _ (put_in c.messages.out) _ _ _ _ _ _ _ c.in-Whole.length c.messages.invariant.0 is
+          (subst (λ bytes. Gives ((rules c.args.allowed.terms).answer (entries_of (g.D.Dir.rows c.messages.dir)) c.messages.who bytes) (put_in c.messages.out) (put_in c.answer.new.out) (entries_of (g.D.Dir.rows c.answer.new.dir)) c.answer.new.who false) same (rw c.in-Ok-false.field-0-test at c.in-Ok-false.ensures.ok)) (c.is_full.ensures.spare c.if-is_full.false),
+      λ none. absurd (omega arith),
+    )
 
 -- the queue is full
 pub returns-then-is_full-clause-said : goal.returns-then-is_full-clause-said
@@ -85,7 +86,7 @@ returns-in-Err-answer-clause-first g c = λ room kept. gave_some c.messages.read
     let same : c.messages.out.replies ≡ c.args.out.now.replies = (c.messages.invariant.1 none).1 in
     let fits : vec_len c.messages.out.replies + 17 ≤ vec_capacity c.messages.out.replies = subst (λ v. vec_len v + 17 ≤ vec_capacity v) (sym same) (omega (arith, room)) in
     let bind = first_bind c.args.stream.now c.split_at.result.1.now c.split_at-in-Whole.result.0.now c.in-Whole.length kept
-        (c.split_at.ensures.back ∙ ap (λ n. drop n c.args.stream.now) begun) (sym c.in-Whole.ensures.exact) c.split_at-in-Whole.ensures.front in
+    (c.split_at.ensures.back ∙ ap (λ n. drop n c.args.stream.now) begun) (sym c.in-Whole.ensures.exact) c.split_at-in-Whole.ensures.front in
     absurd (true≢false (sym (c.in-Err-answer.ensures.succeeds bind fits)))))
 
 pub returns-in-Ok-true-clause-first : goal.returns-in-Ok-true-clause-first

@@ -33,7 +33,9 @@ pub returns-clause-first : goal.returns-clause-first
 returns-clause-first g c = λ idle kept.
     let queue : drop c.self.inside.taken c.self.inside.out.items ≡ [] = ap (λ (k : Kept Requester). k.queue) c.self.view_is ∙ idle.sent in
     let still : c.self.inside.closing ≡ false = ap (λ (k : Kept Requester). k.closing) c.self.view_is ∙ idle.still in
-    let room = idle_room c.self.inside.taken (vec_capacity c.self.inside.out) c.self.inside.closing c.self.inside.out.items c.self.invariant queue still in
+    let room : vec_len c.self.inside.out + kept_room ≤ vec_capacity c.self.inside.out =
+    subst (λ n. n + kept_room ≤ vec_capacity c.self.inside.out) (sym c.self.inside.out.ok.0)
+    (idle_room c.self.inside.taken (vec_capacity c.self.inside.out) c.self.inside.closing c.self.inside.out.items c.self.invariant queue still) in
     subst IsBehindFirst (sym c.cut_behind-self-inside.ensures)
     (behind_first c.speak_and_fit-spoken.result _ _ c.keep_unread-end.result (c.speak_and_fit-spoken.ensures.first room kept) c.keep_unread-end.ensures)
 
