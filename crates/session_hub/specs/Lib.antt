@@ -16,7 +16,6 @@ pub mod serve
 pub mod Outgoing
 pub mod Answers
 pub mod SimpleBinds
-pub mod Plain
 pub mod Telling
 pub mod Adding
 pub mod Waits

@@ -11,11 +11,10 @@ ghost use Rattle.session_hub.specs.SimpleBinds.{message_for};
 
 use crate::results::result_of;
 use crate::simple::SimpleBind;
-use crate::within::put_reply;
 use op_bind::{Bound, bind, bind_with_password};
 use op_read::acdf_filters::Requester;
 use op_read::directory::Dir;
-use session_model::ldap_msg::{BindRequest, Reply};
+use session_model::ldap_msg::{BindRequest, Reply, put_reply};
 use std::alloc::{AllocError, Global};
 
 /// Appends the reply to a bind, and the requester is whom it made. After `AllocError` the requester is who it was.

@@ -25,7 +25,6 @@ mod simple;
 mod spoken;
 mod stream;
 mod waiting;
-mod within;
 
 pub use alike::{
     a_journal_serves_twins, other_sessions_do_not_show, runs_over_twins_are_alike,

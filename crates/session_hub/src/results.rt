@@ -2,7 +2,7 @@
 
 ghost use Rattle.std.specs.Prelude.{◌≡◌};
 ghost use Rattle.op_read.specs.read_model.Views.{result_of};
-ghost use Rattle.session_hub.specs.Plain.{IsPlainResult};
+ghost use Rattle.session_model.specs.ldap_msg.Plain.{IsPlainResult};
 
 use dir_tree::plain_values::Octets;
 use session_model::ldap_msg::{LdapResult, ResultCode};

@@ -10,10 +10,9 @@ use crate::allowance::Allowance;
 use crate::messages::answer;
 use crate::outgoing::Outgoing;
 use crate::spoken::{SpeechEnd, Spoken};
-use crate::within::put_notice;
 use op_read::acdf_filters::Requester;
 use op_read::directory::Dir;
-use session_model::ldap_msg::{Frame, frame};
+use session_model::ldap_msg::{Frame, frame, put_notice};
 use std::alloc::Global;
 
 /// Whether more is queued than there is room for, behind the first message.

@@ -1,4 +1,0 @@
-use Rattle.session_hub.proofs.within.put_notice.Goals as goal
-
-pub returns-clause-succeeds : goal.returns-clause-succeeds
-returns-clause-succeeds c = ?
