@@ -9,6 +9,7 @@ pub mod Controls
 pub mod reading
 pub mod Results
 pub mod Replies
+pub mod Plain
 pub mod Ranges
 pub mod Laws
 -- the words of crates below, handed on

@@ -1,7 +1,8 @@
 //! The reply of a result with no matched name, written in one piece: most replies are one.
 
-ghost use Rattle.std.specs.Prelude.{◌≡◌, ◌<◌, ◌≤◌, ◌++◌, [], IfSome, OnOk, OnErr};
+ghost use Rattle.std.specs.Prelude.{◌≡◌, ◌<◌, ◌≤◌, ◌+◌, ◌++◌, [], vec_len, vec_capacity, IfSome, IsSome, IsOk, OnOk, OnErr};
 ghost use Rattle.ber_layout.specs.Layouts.{writes};
+ghost use Rattle.ldap_msg.specs.Plain.{IsPlain, IsPlainResult};
 ghost use Rattle.ldap_msg.specs.Results.{result_layout};
 ghost use Rattle.ldap_msg.specs.Replies.{reply_content, reply_octets};
 
@@ -13,6 +14,7 @@ impl LdapResult {
         ensures few { IfSome result (λ code. code < 128) }
         ensures same { IfSome result (λ code. self.now.code ≡ code) }
         ensures matched { IfSome result (λ code. self.now.matched ≡ []) }
+        ensures found { IsPlainResult self.now → IsSome result }
     {
         if self.code >= 128 {
             return None;
@@ -28,6 +30,7 @@ impl LdapResult {
 pub(crate) fn plain_code(reply: &Reply) -> Option<u8>
     ensures few { IfSome result (λ code. code < 128) }
     ensures content { IfSome result (λ code. reply_content reply.now ≡ writes result_layout (code, ([], (tt, tt)))) }
+    ensures found { IsPlain reply.now → IsSome result }
 {
     match reply {
         Reply::Entry(_, _) | Reply::Extended(_, _, _) => None,
@@ -42,13 +45,14 @@ pub(crate) fn plain_code(reply: &Reply) -> Option<u8>
 }
 
 /// Appends the message of such a reply: the messageID, and the response with the code, no matched name and no diagnostic
-/// message. The messageID has one octet to four.
+/// message. The messageID has one octet to four. Where there is room for 17 octets this takes no memory.
 pub(crate) fn put_plain(out: &mut Vec<u8>, id: u32, reply: &Reply, code: u8) -> Result<(), NoMemory>
     requires id { id ≤ 2147483647 }
     requires few { code < 128 }
     requires content { reply_content reply.now ≡ writes result_layout (code, ([], (tt, tt))) }
     ensures ok { OnOk result (out.new.items ≡ out.old.items ++ reply_octets id reply.now) }
     ensures err { OnErr result (out.new.items ≡ out.old.items) }
+    ensures succeeds { vec_len out.old + 17 ≤ vec_capacity out.old → IsOk result }
 {
     let tag = reply.response().tag();
     let [a, b, c, d] = id.to_be_bytes();

@@ -1,6 +1,6 @@
 //! Replies written and read.
 
-ghost use Rattle.std.specs.Prelude.{◌≡◌, ◌++◌, ℕ, IfOk, MatchResult, OnOk, OnErr, Some, None};
+ghost use Rattle.std.specs.Prelude.{◌≡◌, ◌≤◌, ◌+◌, ◌++◌, ℕ, vec_len, vec_capacity, IsOk, IfOk, MatchResult, OnOk, OnErr, Some, None};
 ghost use Rattle.ber_layout.specs.declared.kinds.ReadFault.TheVariants.{NoMemory as no_memory};
 ghost use Rattle.ber_layout.specs.Layouts.{reads, writes};
 ghost use Rattle.ber_layout.specs.element.Reading.{Gives};
@@ -8,6 +8,7 @@ ghost use Rattle.ber_layout.specs.Spellings.{Extends, element_octets};
 ghost use Rattle.ldap_msg.specs.declared.kinds.Reply.{Reply};
 ghost use Rattle.ldap_msg.specs.declared.operations.Response.TheVariants as response_is;
 ghost use Rattle.ldap_msg.specs.operations.Operations.{response_tag};
+ghost use Rattle.ldap_msg.specs.Plain.{IsPlain};
 ghost use Rattle.ldap_msg.specs.Results.{entry_layout, entry_parts, names_layout, answered_layout, answered_parts};
 ghost use Rattle.ldap_msg.specs.Replies.{Replies, response_for, reply_layout, reply_content, reply_parts, reply_octets, reply_in, reply_at, answer_in, reply_of, notice_octets};
 
@@ -140,10 +141,12 @@ fn put_in_room(out: &mut Vec<u8>, id: u32, reply: &Reply) -> Result<(), NoMemory
 }
 
 /// Appends a reply's message: the one written spelling (RFC 4511 section 4). After the error, want
-/// of memory, or a content of 2^32 octets or more, `out` is as before.
+/// of memory, or a content of 2^32 octets or more, `out` is as before. A plain reply to a messageID
+/// of at most 2147483647 takes no memory where `out` has room for 17 octets more.
 pub fn put_reply(out: &mut Vec<u8>, id: u32, reply: &Reply) -> Result<(), NoMemory>
     ensures ok { OnOk result (out.new.items ≡ out.old.items ++ reply_octets id reply.now) }
     ensures err { OnErr result (out.new.items ≡ out.old.items) }
+    ensures succeeds { IsPlain reply.now → id ≤ 2147483647 → vec_len out.old + 17 ≤ vec_capacity out.old → IsOk result }
 {
     if id <= MAX_ID {
         if let Some(code) = plain_code(reply) {
@@ -161,10 +164,12 @@ const NOTICE: [u8; 38] = [
 ];
 
 /// Appends the notice of disconnection, with the code protocolError (RFC 4511 4.4.1). After the
-/// error, want of memory, `out` is as before.
+/// error, want of memory, `out` is as before; it doesn't come where `out` has room for the notice's
+/// 38 octets.
 pub fn put_notice(out: &mut Vec<u8>) -> Result<(), NoMemory>
     ensures ok { OnOk result (out.new.items ≡ out.old.items ++ notice_octets) }
     ensures err { OnErr result (out.new.items ≡ out.old.items) }
+    ensures succeeds { vec_len out.old + 38 ≤ vec_capacity out.old → IsOk result }
 {
     out.extend_from_slice(&NOTICE)
 }
