@@ -1,6 +1,6 @@
 //! What a bind comes to.
 
-ghost use Rattle.std.specs.Prelude.{◌≡◌, IfOk};
+ghost use Rattle.std.specs.Prelude.{◌≡◌, [], IsOk, IfOk};
 ghost use Rattle.dir_tree.specs.dn_names.parsing.NameText.{read_name};
 ghost use Rattle.dir_tree.specs.tree.Numbered.{entries_of};
 ghost use Rattle.op_bind.specs.Binds.{ended, bound_name, bound_password, bound_entry, bound_nobody, bound_named};
@@ -96,11 +96,15 @@ fn bind_named(alloc: Global, tree: &Tree, name: &Dn, password: &[u8]) -> Result<
     }
 }
 
-// A bind with a name's text and a password.
+// A bind with a name's text and a password. Without a name it takes no memory.
 fn bind_simple(alloc: Global, tree: &Tree, name: &[u8], password: &[u8]) -> Result<Bound, NoMemory>
     ensures ok { IfOk result (λ bound.
         bound ≡ bound_text (entries_of tree.now) (read_name name.now) password.now) }
+    ensures succeeds { name.now ≡ [] → IsOk result }
 {
+    if name.is_empty() {
+        return Ok(bind_nobody(password));
+    }
     match parse(alloc, name) {
         Ok(name) => bind_named(alloc, tree, &name, password),
         Err(BadName::NoMemory) => Err(AllocError),
@@ -138,7 +142,7 @@ pub fn bind(alloc: Global, tree: &Tree, request: &BindRequest) -> Result<Bound, 
     }
 }
 
-/// The same for a bind of version 3 with a password, whose name and password are lent.
+/// The same for a bind of version 3 with a password, whose name and password are lent. Without a name it takes no memory.
 #[tactic(auto, unfolding(crate::specs::Binds::bind_answer))]
 pub fn bind_with_password(
     alloc: Global,
@@ -147,6 +151,7 @@ pub fn bind_with_password(
     password: &[u8],
 ) -> Result<Bound, NoMemory>
     ensures ok { IfOk result (λ bound. bound ≡ bind_answer (entries_of tree.now) (with_password name.now password.now)) }
+    ensures succeeds { name.now ≡ [] → IsOk result }
 {
     bind_simple(alloc, tree, name, password)
 }

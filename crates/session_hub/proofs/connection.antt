@@ -1,2 +1,3 @@
 pub mod HearLemmas
 pub mod RoomLemmas
+pub mod QueueLemmas

@@ -63,6 +63,14 @@ pub record Speaks (terms : Terms) (room : ℕ) (before : DirectoryEntries) (asks
   pub queued : new.replies ≡ queued_after terms before asks stream old.replies spoken.answered ++ ending
   pub notice : (ending ≡ []) ⊎ (ending ≡ notice_octets)
 
+-- where its first answer was given: a message was answered, or a notice closed it
+abbrev pub GaveFirst : Spoken → Type 0
+GaveFirst spoken = (spoken.end ≡ Closes) ⊎ (0 < spoken.answered)
+
+-- an end stays, but where a stream that stays open is cut
+abbrev pub MayCut : SpeechEnd → SpeechEnd → Type 0
+MayCut old new = (new ≡ old) ⊎ ((old ≡ StaysOpen) × (new ≡ IsCut))
+
 -- a cut so many messages later
 abbrev pub behind : ℕ → Option ℕ → Option ℕ
 behind answered None = None

@@ -6,6 +6,7 @@ pub mod Limiting
 pub mod WhoAmI
 pub mod Answering
 pub mod Rooms
+pub mod FirstAnswers
 pub mod connection
 pub mod hub
 pub mod Event

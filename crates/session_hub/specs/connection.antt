@@ -2,3 +2,4 @@
 pub mod Limits
 -- for the inside of the crate alone
 pub mod Connections
+pub mod Queues

@@ -1,6 +1,6 @@
 //! Binds answered.
 
-ghost use Rattle.std.specs.Prelude.{◌≡◌, ◌++◌, ℕ, Bool, List, [], ◌∷◌, IfOk, OnOk, OnErr, Some};
+ghost use Rattle.std.specs.Prelude.{◌≡◌, ◌≤◌, ◌+◌, ◌++◌, ℕ, Bool, List, [], ◌∷◌, vec_len, vec_capacity, IsOk, IfOk, OnOk, OnErr, Some};
 ghost use Rattle.dir_tree.specs.tree.Numbered.{entries_of};
 ghost use Rattle.session_model.specs.ldap_msg.declared.kinds.Reply.TheVariants as reply;
 ghost use Rattle.op_read.specs.read_model.Views.{result_of as result_with};
@@ -30,6 +30,7 @@ fn put_bound(
     ensures asked { OnOk result (who.new ≡ bound.who) }
     ensures err { OnErr result (out.new.items ≡ out.old.items) }
     ensures kept { OnErr result (who.new ≡ who.old) }
+    ensures succeeds { id ≤ 2147483647 → vec_len out.old + 17 ≤ vec_capacity out.old → IsOk result }
 {
     put_reply(out, id, &Reply::Bind(result_of(alloc, bound.code)))?;
     *who = bound.who;
@@ -54,7 +55,8 @@ pub fn answer_bind<D: Dir>(
     put_bound(alloc, who, id, bound, out)
 }
 
-/// The same for a simple bind, which leaves the connection open.
+/// The same for a simple bind, which leaves the connection open. Without a name it takes no memory where there is room for
+/// 17 octets.
 pub fn answer_simple_bind<D: Dir>(
     alloc: Global,
     dir: &D,
@@ -69,6 +71,7 @@ pub fn answer_simple_bind<D: Dir>(
         (entries_of (D.rows dir.now)) who.new closes) }
     ensures err { OnErr result (out.new.items ≡ out.old.items) }
     ensures kept { OnErr result (who.new ≡ who.old) }
+    ensures succeeds { request.now.name.now ≡ [] → request.now.id ≤ 2147483647 → vec_len out.old + 17 ≤ vec_capacity out.old → IsOk result }
 {
     let bound = bind_with_password(alloc, dir.tree(), request.name, request.password)?;
     put_bound(alloc, who, request.id, bound, out)?;

@@ -1,14 +1,16 @@
 //! One connection held.
 
-ghost use Rattle.std.specs.Prelude.{◌≡◌, ◌≤◌, ◌+◌, ℕ, [], length, drop, vec_len};
+ghost use Rattle.std.specs.Prelude.{◌≡◌, ◌≤◌, ◌+◌, ℕ, true, [], length, drop, vec_len, vec_capacity, IfOk};
 ghost use Rattle.dir_tree.specs.tree.Numbered.{entries_of};
 ghost use Rattle.session_model.specs.Kept.{closed, without_front, opened_kept};
 ghost use Rattle.session_hub.specs.Answering.{rules};
-ghost use Rattle.session_hub.specs.Answers.{Speaks, closes_at, cut_at};
+ghost use Rattle.session_hub.specs.Answers.{Speaks, GaveFirst, MayCut, closes_at, cut_at};
+ghost use Rattle.session_hub.specs.FirstAnswers.{kept_room, HasKeptAnswer, IsIdle, IsBehindFirst};
 ghost use Rattle.session_hub.specs.Rooms.{StaysWithin};
 ghost use Rattle.session_hub.specs.connection.Connections.{HearsPiece, KeepsRest};
 ghost use Rattle.session_hub.specs.connection.Limits.{most_unread};
 ghost use Rattle.session_hub.specs.Terms.{Terms};
+ghost use Rattle.session_hub.specs.declared.spoken.SpeechEnd.TheVariants.{StaysOpen};
 
 use crate::allowance::Allowance;
 use crate::outgoing::Outgoing;
@@ -17,12 +19,15 @@ use crate::spoken::{SpeechEnd, Spoken};
 use crate::stream::speak;
 use op_read::acdf_filters::Requester;
 use op_read::directory::Dir;
-use std::alloc::Global;
+use std::alloc::{AllocError, Global};
 use std::marker::Model;
 use std::mem::replace;
 
 /// The most octets that a buffer keeps room for while it is empty.
 const MOST_SPARE: usize = 65_536;
+
+/// How many octets of replies an open connection keeps room for, so that its first answer may take no memory.
+const KEPT_ROOM: usize = 64;
 
 /// A connection: its octets that are part of no whole message yet, and the octets still to be sent.
 #[derive(Drop)]
@@ -37,31 +42,33 @@ pub struct Connection {
 }
 
 impl Model for Connection {
-    ghost use Rattle.std.specs.Prelude.{◌≤◌, drop, length};
+    ghost use Rattle.std.specs.Prelude.{drop, length, vec_capacity};
     ghost use Rattle.session_model.specs.Kept.{Kept};
     ghost use Rattle.session_hub.specs.Parties.{Requester};
+    ghost use Rattle.session_hub.specs.connection.Queues.{IsQueue};
 
     ghost Value = { Kept Requester };
 
     ghost view = { λ connection. record { number = connection.number; rest = connection.rest.items; who = connection.who; queue = drop connection.taken connection.out.items; closing = connection.closing; cut = connection.cut } };
 
-    ghost invariant = { λ connection. connection.taken ≤ length connection.out.items };
+    ghost invariant = { λ connection. IsQueue connection.taken (length connection.out.items) (vec_capacity connection.out) connection.closing };
 }
 
 impl Connection {
-    /// A connection that has just opened.
-    pub fn new(alloc: Global, number: u32) -> Connection
-        ensures { (terms : Terms) → result ≡ opened_kept (rules terms) number }
+    /// A connection that has just opened. The error comes for want of memory.
+    pub fn new(alloc: Global, number: u32) -> Result<Connection, AllocError>
+        ensures ok { IfOk result (λ connection. (terms : Terms) → connection ≡ opened_kept (rules terms) number) }
     {
-        Connection {
+        let out = Vec::with_capacity(alloc, KEPT_ROOM)?;
+        Ok(Connection {
             number,
             rest: Vec::new(alloc),
             who: anonymous(),
-            out: Vec::new(alloc),
+            out,
             taken: 0,
             closing: false,
             cut: None,
-        }
+        })
     }
 
     pub fn number(&self) -> u32
@@ -126,7 +133,8 @@ impl Connection {
 
     /// Hears a piece of an open connection: its whole messages are answered, and what is left is
     /// kept unless the connection closes now. Where there is no memory, or more waits for it than
-    /// there is room for, it is cut, which closes it.
+    /// there is room for, it is cut, which closes it. Where nothing is unread or queued it isn't cut before a
+    /// first answer that has kept room.
     pub fn hear<D: Dir>(
         &mut self,
         alloc: Global,
@@ -140,6 +148,7 @@ impl Connection {
             (entries_of (D.rows dir.new)) self.new changes.new.items }
         ensures bounded { length self.new.rest ≤ most_unread }
         ensures room { StaysWithin allowed.terms allowed.room piece.now (entries_of (D.rows dir.old)) self.old self.new }
+        ensures first { IsIdle self.old → HasKeptAnswer piece.now → IsBehindFirst self.new.cut }
     {
         if self.rest.is_empty() {
             self.hear_alone(alloc, dir, piece, allowed, changes);
@@ -163,6 +172,7 @@ impl Connection {
             (entries_of (D.rows dir.new)) self.new changes.new.items }
         ensures bounded { length self.new.rest ≤ most_unread }
         ensures room { StaysWithin allowed.terms allowed.room piece.now (entries_of (D.rows dir.old)) self.old self.new }
+        ensures first { IsIdle self.old → HasKeptAnswer piece.now → IsBehindFirst self.new.cut }
     {
         let inside = Allowance {
             terms: allowed.terms,
@@ -232,7 +242,8 @@ fn room_behind(room: usize, taken: usize) -> usize
     room.saturating_add(taken)
 }
 
-/// Answers a stream, as `speak` does, behind a queue and the changes so far, and leaves the queue no more room than it needs.
+/// Answers a stream, as `speak` does, behind a queue and the changes so far, and leaves the queue no more room than it needs,
+/// and the kept room where the connection stays open.
 fn speak_and_fit<D: Dir>(
     alloc: Global,
     dir: &mut D,
@@ -242,10 +253,12 @@ fn speak_and_fit<D: Dir>(
     queue: &mut Vec<u8>,
     changes: &mut Vec<u8>,
 ) -> Spoken
-    ensures { Speaks allowed.terms allowed.room (entries_of (D.rows dir.old)) who.old stream.now
+    ensures said { Speaks allowed.terms allowed.room (entries_of (D.rows dir.old)) who.old stream.now
         (record { replies = queue.old.items; changes = changes.old.items })
         (record { replies = queue.new.items; changes = changes.new.items })
         (entries_of (D.rows dir.new)) who.new result }
+    ensures first { vec_len queue.old + kept_room ≤ vec_capacity queue.old → HasKeptAnswer stream.now → GaveFirst result }
+    ensures kept { result.end ≡ StaysOpen → kept_room ≤ vec_capacity queue.new }
 {
     let mut out = Outgoing {
         replies: replace(queue, Vec::new(alloc)),
@@ -259,13 +272,35 @@ fn speak_and_fit<D: Dir>(
     *queue = queued;
     *changes = changed;
     fit(queue);
-    spoken
+    Spoken {
+        read: spoken.read,
+        answered: spoken.answered,
+        end: keep_room(queue, spoken.end),
+    }
+}
+
+/// Keeps the room of the queue of a connection that stays open. Where there is no memory for it, the connection is cut.
+fn keep_room(queue: &mut Vec<u8>, end: SpeechEnd) -> SpeechEnd
+    ensures items { queue.new.items ≡ queue.old.items }
+    ensures kept { result ≡ StaysOpen → kept_room ≤ vec_capacity queue.new }
+    ensures end { MayCut end result }
+{
+    match end {
+        SpeechEnd::StaysOpen => match queue.reserve(KEPT_ROOM.saturating_sub(queue.len())) {
+            Ok(()) => SpeechEnd::StaysOpen,
+            Err(_) => SpeechEnd::IsCut,
+        },
+        SpeechEnd::Closes => SpeechEnd::Closes,
+        SpeechEnd::IsCut => SpeechEnd::IsCut,
+        SpeechEnd::IsFull => SpeechEnd::IsFull,
+    }
 }
 
 /// Whether a buffer of this length, of which so many octets were taken, gives their room back: where all were, or a quarter
 /// as many as are left and more than a buffer may keep.
 fn is_spent(taken: usize, length: usize) -> bool
     requires { taken ≤ length }
+    ensures { taken ≡ length → result ≡ true }
 {
     taken == length || (taken > MOST_SPARE && taken >= (length - taken) / 4)
 }
@@ -277,7 +312,8 @@ fn is_loose(room: usize, length: usize) -> bool {
 
 /// Gives back most of the room that a buffer doesn't need. An eighth stays, so that what is appended next is seldom copied.
 pub fn fit(octets: &mut Vec<u8>)
-    ensures { octets.new.items ≡ octets.old.items }
+    ensures items { octets.new.items ≡ octets.old.items }
+    ensures kept { kept_room ≤ vec_capacity octets.old → kept_room ≤ vec_capacity octets.new }
 {
     let length = octets.len();
     if is_loose(octets.capacity(), length) {
@@ -288,7 +324,8 @@ pub fn fit(octets: &mut Vec<u8>)
 /// Takes the first octets away, without memory, and gives back what room the buffer needs no more.
 fn give_back(octets: &mut Vec<u8>, count: usize)
     requires { count ≤ vec_len octets.old }
-    ensures { octets.new.items ≡ drop count octets.old.items }
+    ensures items { octets.new.items ≡ drop count octets.old.items }
+    ensures kept { kept_room ≤ vec_capacity octets.old → kept_room ≤ vec_capacity octets.new }
 {
     let left = octets.len() - count;
     octets.copy_within(count.., 0);

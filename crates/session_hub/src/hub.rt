@@ -5,6 +5,7 @@ ghost use Rattle.dir_tree.specs.tree.Numbered.{entries_of};
 ghost use Rattle.session_model.specs.Run as run;
 ghost use Rattle.session_model.specs.Kept.{kept_of, queue_of, closing_of, cut_of, taken_off, forgotten};
 ghost use Rattle.session_hub.specs.Rooms.{room_of, queued_beside, HearsWithin};
+ghost use Rattle.session_hub.specs.FirstAnswers.{AnswersFirst, HearsFirst};
 ghost use Rattle.session_hub.specs.hub.Hubs.{held, no_hub, Hears, HearsAnywhere, OpensOne, IsBounded, unread_of};
 ghost use Rattle.session_hub.specs.hub.Following.{FollowsStart, FollowsStep, FollowsAnywhere, FollowsTaking, QueuesReply, ClosesWith, RequestsAs, LeavesUnread, CountsHeld};
 ghost use Rattle.session_hub.specs.Event.{step_by};
@@ -164,7 +165,9 @@ impl Hub {
     /// A search is answered within the bounds' limit, and each accepted change is recorded as `unstored`
     /// where the bounds' terms say so. Where there is no memory for an answer, or more
     /// waits for the connection than it has room for, that connection alone is cut, which closes it, and
-    /// `cut` tells where. `AllocError` comes where a connection is to be held and there is no memory;
+    /// `cut` tells where. A connection keeps the room for its first answer from its opening: where nothing of it is unread or
+    /// queued, the notice to a broken stream and the answer to an anonymous bind at the front of a piece are never cut.
+    /// `AllocError` comes where a connection is to be held and there is no memory;
     /// all is then as it was. Over twins of the directory the same is answered to requests that read.
     pub fn hear<D: Dir>(&mut self, dir: &mut D, event: Event<'_>) -> Result<(), AllocError>
         ensures exact { OnOk result (Hears self.old.bounds.terms event.entry
@@ -178,6 +181,7 @@ impl Hub {
             (held (entries_of (D.rows dir.new)) self.new ≡ held (entries_of (D.rows dir.old)) self.old) }
         ensures bounded { IsBounded self.new.kept }
         ensures room { HearsWithin event.entry self.old.bounds (entries_of (D.rows dir.old)) self.old.kept self.new.kept }
+        ensures first { HearsFirst event.entry self.old.kept self.new.kept }
         ensures bounds { self.new.bounds ≡ self.old.bounds }
     {
         let heard = self.hear_event(dir, event);
@@ -208,6 +212,7 @@ impl Hub {
         ensures kept { OnErr result
             (held (entries_of (D.rows dir.new)) self.new ≡ held (entries_of (D.rows dir.old)) self.old) }
         ensures room { HearsWithin event.entry self.old.bounds (entries_of (D.rows dir.old)) self.old.kept self.new.kept }
+        ensures first { HearsFirst event.entry self.old.kept self.new.kept }
         ensures bounds { self.new.bounds ≡ self.old.bounds }
     {
         match event {
@@ -235,7 +240,7 @@ impl Hub {
         if self.connections.len() >= MAX_CONNECTIONS {
             return Ok(());
         }
-        let connection = Connection::new(self.alloc, conn);
+        let connection = Connection::new(self.alloc, conn)?;
         self.connections.push(connection)?;
         Ok(())
     }
@@ -252,6 +257,7 @@ impl Hub {
             (held (entries_of (D.rows dir.old)) self.old) (held (entries_of (D.rows dir.new)) self.new) }
         ensures room { HearsWithin (Event.Bytes conn piece.entry) self.old.bounds
             (entries_of (D.rows dir.old)) self.old.kept self.new.kept }
+        ensures first { AnswersFirst conn piece.now self.old.kept self.new.kept }
         ensures bounds { self.new.bounds ≡ self.old.bounds }
     {
         let allowed = self.allowance(conn);

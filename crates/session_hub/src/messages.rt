@@ -1,6 +1,6 @@
 //! The answer to one message.
 
-ghost use Rattle.std.specs.Prelude.{◌≡◌, ◌≤◌, ◌++◌, ℕ, Bool, List, [], ◌∷◌, length, take, vec_len, IfOk, OnOk, OnErr, Some, None};
+ghost use Rattle.std.specs.Prelude.{◌≡◌, ◌≤◌, ◌+◌, ◌++◌, ℕ, Bool, List, [], ◌∷◌, length, take, vec_len, vec_capacity, IsOk, IfOk, OnOk, OnErr, Some, None};
 ghost use Rattle.dir_tree.specs.tree.Numbered.{entries_of};
 ghost use Rattle.session_model.specs.ldap_msg.Streams.{frame_at};
 ghost use Rattle.session_model.specs.ldap_msg.declared.operations.ResultCode.TheVariants as code;
@@ -16,6 +16,7 @@ ghost use Rattle.session_hub.specs.Controls.{subentries_asked, page_asked};
 ghost use Rattle.session_hub.specs.Answering.{rules, response_to as response_of, replies_in, ended_with, asking, searched, answer_octets, change_of, changing, kept_changes, operated, answered, is_unbind, answer_read};
 ghost use Rattle.session_hub.specs.Outgoing.{put_in};
 ghost use Rattle.session_hub.specs.Answers.{Gives, Sends};
+ghost use Rattle.session_hub.specs.FirstAnswers.{IsAnonymousBind};
 ghost use Rattle.session_hub.specs.Limiting.{limited_message, lesser_limit};
 
 use crate::allowance::Allowance;
@@ -478,7 +479,8 @@ fn answer_any<D: Dir>(
 /// Answers the octets of one message for the requester, appends the replies (RFC 4511 4.1.1), and
 /// says whether the connection closes. Octets that are no message get the notice of disconnection
 /// (4.4.1). `AllocError` comes for want of memory, or where more than the room waits for the
-/// connection while a search is answered, and then all is as it was.
+/// connection while a search is answered, and then all is as it was. An anonymous bind is answered
+/// without memory where there is room for 17 octets.
 pub fn answer<D: Dir>(
     alloc: Global,
     dir: &mut D,
@@ -494,6 +496,7 @@ pub fn answer<D: Dir>(
     ensures unrecorded { OnErr result (out.new.changes.items ≡ out.old.changes.items) }
     ensures asker { OnErr result (who.new ≡ who.old) }
     ensures entries { OnErr result (entries_of (D.rows dir.new) ≡ entries_of (D.rows dir.old)) }
+    ensures succeeds { IsAnonymousBind bytes.now → vec_len out.old.replies + 17 ≤ vec_capacity out.old.replies → IsOk result }
 {
     match simple_bind(bytes) {
         Some(request) => answer_simple_bind(alloc, dir, who, &request, &mut out.replies),

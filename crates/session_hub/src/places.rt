@@ -4,6 +4,7 @@ ghost use Rattle.std.specs.Prelude.{◌≡◌, ◌≤◌, ◌-◌, ◌^◌, min,
 ghost use Rattle.dir_tree.specs.tree.Numbered.{entries_of};
 ghost use Rattle.session_model.specs.Kept.{kept_of, is_kept, queue_of, closing_of, cut_of, forgotten, taken_off, changed, closed};
 ghost use Rattle.session_hub.specs.Rooms.{queued_beside, AnswersWithin};
+ghost use Rattle.session_hub.specs.FirstAnswers.{AnswersFirst};
 ghost use Rattle.session_hub.specs.hub.Hubs.{IsAt, IsBounded, AreDistinct, HearsAt, unread_of};
 
 use crate::allowance::Allowance;
@@ -150,6 +151,7 @@ pub fn hear_at<D: Dir>(
     ensures distinct { AreDistinct connections.new }
     ensures room { AnswersWithin allowed.terms allowed.room number piece.now
         (entries_of (D.rows dir.old)) connections.old connections.new }
+    ensures first { AnswersFirst number piece.now connections.old connections.new }
 {
     match place_of(connections, *place, number) {
         None => false,

@@ -1,17 +1,21 @@
 //! Simple binds read where they lie, so that nothing of what other requests need is cleared or copied for them.
 
-ghost use Rattle.std.specs.Prelude.{◌≡◌, IfSome, Some, true};
-ghost use Rattle.session_model.specs.ber_layout.element.Pieces.{number_in};
+ghost use Rattle.std.specs.Prelude.{◌≡◌, ◌≤◌, IfSome, Some};
+ghost use Rattle.session_model.specs.ber_layout.element.Pieces.{number_in, tagged_at};
+ghost use Rattle.session_model.specs.ber_layout.element.Reading.{Finds, piece_view};
 ghost use Rattle.session_model.specs.ldap_msg.Binds.{bind_of};
 ghost use Rattle.session_model.specs.ldap_msg.reading.Messages.{message_in, message_of};
-ghost use Rattle.op_bind.specs.Binds.{with_password};
-ghost use Rattle.session_hub.specs.SimpleBinds.{message_for};
+ghost use Rattle.session_hub.specs.SimpleBinds.{credentials_of, simple_in, message_for, says_no_controls};
 
-use session_model::ber_layout::{any, integer, is_further, tagged};
+use session_model::ber_elements::read_int;
+use session_model::ber_layout::{Element, begins, first_element, is_further, is_further_but};
 use session_model::ldap_msg::Operation;
 
 /// The greatest messageID (RFC 4511 4.1.1).
 const MAX_ID: u32 = 2_147_483_647;
+
+/// The tag of the controls of a message (RFC 4511 4.1.1).
+const CONTROLS: u8 = 0xa0;
 
 /// A simple bind of version 3: the number of its message, the name and the password.
 #[derive(Clone, Copy, Debug)]
@@ -28,30 +32,41 @@ struct Credentials<'a> {
     password: &'a [u8],
 }
 
-/// Whether the content of an INTEGER is that of the version of these binds.
-fn is_version_3(content: &[u8]) -> bool
-    ensures { result ≡ true → number_in 1 127 content.now ≡ Some 3 }
+/// The element at the front, where it has this tag.
+fn element_with(tag: u8, octets: &[u8]) -> Option<Element<'_>>
+    ensures { Finds piece_view result (tagged_at tag octets.now) }
 {
-    match content {
-        [octet] => *octet == 3,
-        _ => false,
+    let found = first_element(octets)?;
+    if found.tag == tag { Some(found) } else { None }
+}
+
+/// The number from `low` to `high` that is the content of an INTEGER.
+fn number_of(low: u32, high: u32, content: &[u8]) -> Option<u32>
+    ensures exact { result ≡ number_in low high content.now }
+    ensures most { IfSome result (λ number. number ≤ high) }
+{
+    match read_int(content) {
+        None => None,
+        Some(value) => {
+            if value < i64::from(low) {
+                return None;
+            }
+            if value > i64::from(high) {
+                return None;
+            }
+            Some(value as u32)
+        }
     }
 }
 
-/// The credentials in the content of a simple bind of version 3. None says nothing.
+/// The credentials in the content of a simple bind of version 3. None comes for any other content.
 fn credentials_in(content: &[u8]) -> Option<Credentials<'_>>
-    ensures { IfSome result (λ found. bind_of content.now ≡ Some (with_password found.name.now found.password.now)) }
+    ensures { Finds (λ found. (found.name.now, found.password.now)) result (credentials_of (bind_of content.now)) }
 {
-    let Ok(version) = tagged(0x02, content) else {
-        return None;
-    };
-    let Ok(name) = tagged(0x04, version.rest) else {
-        return None;
-    };
-    let Ok(auth) = any(name.rest) else {
-        return None;
-    };
-    if !is_version_3(version.content) || auth.tag != 0x80 || !is_further(auth.rest) {
+    let version = element_with(0x02, content)?;
+    let name = element_with(0x04, version.rest)?;
+    let auth = first_element(name.rest)?;
+    if number_of(1, 127, version.content)? != 3 || auth.tag != 0x80 || !is_further(auth.rest) {
         return None;
     }
     Some(Credentials {
@@ -60,35 +75,45 @@ fn credentials_in(content: &[u8]) -> Option<Credentials<'_>>
     })
 }
 
-/// The simple bind that the content of a message is, without controls. None says nothing.
-fn bind_in(content: &[u8]) -> Option<SimpleBind<'_>>
-    ensures { IfSome result (λ bind. message_in content.now ≡ Some (message_for bind)) }
+/// Whether what follows an operation says no controls: they are absent, or a list of none.
+fn has_no_controls(octets: &[u8]) -> bool
+    ensures { result ≡ says_no_controls octets.now }
 {
-    let Ok(id) = integer(0x02, 1, MAX_ID, content) else {
+    if !begins(CONTROLS, octets) {
+        return is_further_but(CONTROLS, octets);
+    }
+    match element_with(CONTROLS, octets) {
+        Some(controls) => { controls.content.is_empty() && is_further_but(CONTROLS, controls.rest) }
+        None => false,
+    }
+}
+
+/// The simple bind that the content of a message is, without controls. None comes for any other content.
+fn bind_in(content: &[u8]) -> Option<SimpleBind<'_>>
+    ensures exact { Finds (λ bind. (bind.id, (bind.name.now, bind.password.now))) result (simple_in (message_in content.now)) }
+    ensures id { IfSome result (λ bind. bind.id ≤ 2147483647) }
+{
+    let first = element_with(0x02, content)?;
+    let id = number_of(1, MAX_ID, first.content)?;
+    let operation = first_element(first.rest)?;
+    if operation.tag != Operation::Bind.tag() {
         return None;
-    };
-    let Ok(operation) = any(id.rest) else {
-        return None;
-    };
-    if operation.tag != Operation::Bind.tag() || !operation.rest.is_empty() {
+    }
+    if !has_no_controls(operation.rest) {
         return None;
     }
     let Credentials { name, password } = credentials_in(operation.content)?;
-    Some(SimpleBind {
-        id: id.value,
-        name,
-        password,
-    })
+    Some(SimpleBind { id, name, password })
 }
 
-/// The simple bind of version 3 that the octets say, where they are one and it has no controls. None says nothing: any
-/// message, these binds too, is read by `read_request`. This takes no memory.
+/// The simple bind of version 3 that the octets say, where they are one and it has no controls. None comes for any
+/// other octets. This takes no memory.
 pub fn simple_bind(bytes: &[u8]) -> Option<SimpleBind<'_>>
-    ensures { IfSome result (λ bind. message_of bytes.now ≡ Some (message_for bind)) }
+    ensures message { IfSome result (λ bind. message_of bytes.now ≡ Some (message_for bind)) }
+    ensures exact { Finds (λ bind. (bind.id, (bind.name.now, bind.password.now))) result (simple_in (message_of bytes.now)) }
+    ensures id { IfSome result (λ bind. bind.id ≤ 2147483647) }
 {
-    let Ok(outer) = tagged(0x30, bytes) else {
-        return None;
-    };
+    let outer = element_with(0x30, bytes)?;
     if !outer.rest.is_empty() {
         return None;
     }

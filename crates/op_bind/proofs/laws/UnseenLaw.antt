@@ -1,5 +1,5 @@
 -- Leaving out a subtree changes no bind with a name outside it.
-use Rattle.std.proofs.Common.{◌≡◌, ℕ, ◌==◌, false, List, [], ◌∷◌, Option, Result, Ok, Err, IfOk, refl, ap, ◌∙◌, if◌then◌else◌}
+use Rattle.std.proofs.Common.{◌≡◌, ℕ, ◌==◌, false, List, [], ◌∷◌, Option, Result, Ok, Err, IfOk, refl, ap, if◌then◌else◌}
 use Rattle.dir_tree.specs.dn_names.name.Names.{RdnSequence}
 use Rattle.dir_tree.specs.dn_names.declared.error.BadName.{BadName}
 use Rattle.dir_tree.specs.dn_names.NameOrder.{is_prefix_of}

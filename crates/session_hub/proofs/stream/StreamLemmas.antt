@@ -9,11 +9,13 @@ use Rattle.session_model.specs.Rules.{Answered, after_octets}
 use Rattle.session_model.proofs.Theorems.{one_later, speech-whole, speech-more, speech-bad, speech-cut}
 use Rattle.session_hub.specs.Parties.{DirectoryEntries, Requester}
 use Rattle.session_hub.specs.Terms.{Terms}
+use Rattle.session_hub.specs.declared.spoken.Spoken.{Spoken}
+use Rattle.session_hub.specs.declared.spoken.SpeechEnd.{SpeechEnd}
 use Rattle.session_hub.specs.declared.spoken.SpeechEnd.TheVariants.{StaysOpen, Closes, IsCut, IsFull}
 use Rattle.session_hub.specs.Outgoing.{Put}
 use Rattle.session_hub.specs.Answering.{rules}
 use Rattle.session_hub.specs.Rooms.{HasRoom, queued_after}
-use Rattle.session_hub.specs.Answers.{Gives, Speaks, SaysSoFar, said_to, behind}
+use Rattle.session_hub.specs.Answers.{Gives, Speaks, SaysSoFar, MayCut, said_to, behind}
 use Rattle.session_hub.proofs.messages.AnswerLemmas.{closes_says}
 
 -- a message at the front of the rest is one there of the stream
@@ -207,3 +209,25 @@ pub so_far_full : (terms : Terms) (room : ℕ) (t : DirectoryEntries) (w : Reque
     SaysSoFar terms room t w stream old now u x read answered → room < length now.replies → Speaks terms room t w stream old now u x (record { read = read; answered = answered; end = IsFull })
 so_far_full terms room t w stream old now u x read answered so full =
     record { gives = cut_here terms room t w stream old now u x read answered so; within = so.within; unread = λ h. absurd (cc); cuts = λ h. absurd (cc); full = λ _. full; spare = so.spare; complete = answered_within terms room t w stream old now u x read answered so; ending = []; queued = (cut_here terms room t w stream old now u x read answered so).said ∙ sym (append-nil (queued_after terms t w stream old.replies answered)); notice = inl refl }
+
+-- where a stream that stays open is cut behind all of its messages, the same was said; the replies may stand in another buffer
+pub speaks_kept : (terms : Terms) (room : ℕ) (t : DirectoryEntries) (w : Requester) (stream : List ℕ) (old new kept : Put) (u : DirectoryEntries) (y : Requester) (spoken : Spoken) (end : SpeechEnd) →
+    Speaks terms room t w stream old new u y spoken → MayCut spoken.end end → kept ≡ new → Speaks terms room t w stream old kept u y (record { read = spoken.read; answered = spoken.answered; end = end })
+speaks_kept terms room t w stream old new kept u y spoken end speaks may same =
+    subst (λ z. Speaks terms room t w stream old z u y (record { read = spoken.read; answered = spoken.answered; end = end })) (sym same)
+    (elim may [
+      | inl unchanged ↦ subst (λ e. Speaks terms room t w stream old new u y (record { read = spoken.read; answered = spoken.answered; end = e })) (sym unchanged) speaks
+      | inr cut ↦ subst (λ e. Speaks terms room t w stream old new u y (record { read = spoken.read; answered = spoken.answered; end = e })) (sym cut.1)
+          (record {
+            gives = speaks.cuts cut.0;
+            within = speaks.within;
+            unread = λ h. absurd (cc);
+            cuts = λ h. absurd (cc);
+            full = λ h. absurd (cc);
+            spare = speaks.spare;
+            complete = speaks.complete;
+            ending = speaks.ending;
+            queued = speaks.queued;
+            notice = speaks.notice;
+          })
+    ])

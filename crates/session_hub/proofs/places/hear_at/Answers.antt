@@ -9,6 +9,8 @@ use Rattle.session_hub.specs.connection.Connections.{HearsPiece}
 use Rattle.session_hub.specs.Rooms.{StaysWithin}
 use Rattle.session_hub.proofs.connection.RoomLemmas.{answers_nowhere, answers_closing, answers_open}
 use Rattle.session_hub.proofs.connection.HearLemmas.{hears_nowhere, hears_closing, hears_open, is_some_cut}
+use Rattle.session_hub.specs.FirstAnswers.{HasKeptAnswer, IsIdle, IsBehindFirst}
+use Rattle.session_hub.proofs.places.IdleLemmas.{first_nowhere, first_closing, first_open}
 use Rattle.session_hub.proofs.places.hear_at.Goals as goal
 
 -- the connection isn't held
@@ -62,3 +64,18 @@ returns-else-is_closing-clause-room g c =
     answers_open c.args.allowed.terms c.args.allowed.room c.args.number c.in-Some.at c.args.piece.now (entries_of (g.D.Dir.rows c.args.dir.now)) c.args.connections.now c.index-connections-at.result c.hear.new.self c.in-Some.ensures c.index-connections-at.is
     (ap (λ (x : Kept Requester). x.number) c.hear.ensures.exact.kept ∙ ap (λ (x : Kept Requester). x.number) (sym c.index-connections-at.is))
     (subst (λ x. StaysWithin c.args.allowed.terms c.args.allowed.room c.args.piece.now (entries_of (g.D.Dir.rows c.args.dir.now)) x c.hear.new.self) (sym c.index-connections-at.is) c.hear.ensures.room)
+
+-- an idle connection isn't cut before a first answer that has room
+pub returns-in-None-clause-first : goal.returns-in-None-clause-first
+returns-in-None-clause-first g c = first_nowhere c.args.number c.args.piece.now c.args.connections.now c.args.connections.now c.in-None.ensures
+
+pub returns-then-is_closing-clause-first : goal.returns-then-is_closing-clause-first
+returns-then-is_closing-clause-first g c =
+    first_closing c.args.number c.in-Some.at c.args.piece.now c.args.connections.now _ c.index-connections-at.result c.in-Some.ensures c.index-connections-at.is
+    (ap (λ (x : Kept Requester). x.closing) c.index-connections-at.is ∙ sym c.is_closing.ensures ∙ c.if-is_closing.true)
+
+pub returns-else-is_closing-clause-first : goal.returns-else-is_closing-clause-first
+returns-else-is_closing-clause-first g c =
+    first_open c.args.number c.in-Some.at c.args.piece.now c.args.connections.now c.index-connections-at.result c.hear.new.self c.in-Some.ensures c.index-connections-at.is
+    (ap (λ (x : Kept Requester). x.number) c.hear.ensures.exact.kept ∙ ap (λ (x : Kept Requester). x.number) (sym c.index-connections-at.is))
+    (subst (λ x. IsIdle x → HasKeptAnswer c.args.piece.now → IsBehindFirst c.hear.new.self.cut) (sym c.index-connections-at.is) c.hear.ensures.first)

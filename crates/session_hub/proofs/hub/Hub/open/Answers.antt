@@ -25,12 +25,19 @@ returns-clause-ok c =
     ap (λ (h : HubState). length h.kept) (sym c.self.view_is) ∙ ap length (sym c.deref.ensures.value) ∙ c.deref.ensures.len ∙ sym c.len.ensures in
     let absent = ap (λ (h : HubState). is_kept (kept_of c.args.conn h.kept)) (sym c.self.view_is) ∙ ap (λ ks. is_kept (kept_of c.args.conn ks)) (sym c.deref.ensures.value) ∙ sym c.is_at.ensures ∙ c.if-is_at.false in
     opens_new c.args.conn c.args.self.now _ absent (omega arith)
-    (ap (λ ks. let h : HubState = record { kept = ks; was_cut = c.self.inside.was_cut; unstored = c.self.inside.unstored.items; bounds = c.self.inside.bounds } in h) (c.in_ok-push.ensures.items ∙ ap (λ k. c.self.inside.connections.items ++ k ∷ []) (c.new-connection.ensures c.args.self.now.bounds.terms))
+    (ap (λ ks. let h : HubState = record { kept = ks; was_cut = c.self.inside.was_cut; unstored = c.self.inside.unstored.items; bounds = c.self.inside.bounds } in h) (c.in_ok-push.ensures.items ∙ ap (λ k. c.self.inside.connections.items ++ k ∷ []) (c.in_ok-connection.ensures.ok c.args.self.now.bounds.terms))
     ∙ ap (λ (h : HubState). let now : HubState = record h { kept = h.kept ++ opened_kept (rules c.args.self.now.bounds.terms) c.args.conn ∷ [] } in now) c.self.view_is)
 
 -- there is room, and no memory
 pub returns-in_err-push-clause-cause : goal.returns-in_err-push-clause-cause
 returns-in_err-push-clause-cause c =
+    let same : length c.args.self.now.kept ≡ c.len.result =
+    ap (λ (h : HubState). length h.kept) (sym c.self.view_is) ∙ ap length (sym c.deref.ensures.value) ∙ c.deref.ensures.len ∙ sym c.len.ensures in
+    let absent = ap (λ (h : HubState). is_kept (kept_of c.args.conn h.kept)) (sym c.self.view_is) ∙ ap (λ ks. is_kept (kept_of c.args.conn ks)) (sym c.deref.ensures.value) ∙ sym c.is_at.ensures ∙ c.if-is_at.false in
+    on_err_any c.from_residual-in_err-push.result (absent, omega arith)
+
+pub returns-in_err-connection-clause-cause : goal.returns-in_err-connection-clause-cause
+returns-in_err-connection-clause-cause c =
     let same : length c.args.self.now.kept ≡ c.len.result =
     ap (λ (h : HubState). length h.kept) (sym c.self.view_is) ∙ ap length (sym c.deref.ensures.value) ∙ c.deref.ensures.len ∙ sym c.len.ensures in
     let absent = ap (λ (h : HubState). is_kept (kept_of c.args.conn h.kept)) (sym c.self.view_is) ∙ ap (λ ks. is_kept (kept_of c.args.conn ks)) (sym c.deref.ensures.value) ∙ sym c.is_at.ensures ∙ c.if-is_at.false in
@@ -41,5 +48,5 @@ pub invariant_of-self-2 : goal.invariant_of-self-2
 invariant_of-self-2 c =
     let absent : is_kept (kept_of c.args.conn c.self.inside.connections.items) ≡ false =
     ap (λ ks. is_kept (kept_of c.args.conn ks)) (sym c.deref.ensures.value) ∙ sym c.is_at.ensures ∙ c.if-is_at.false in
-    subst AreHeld (sym (c.in_ok-push.ensures.items ∙ ap (λ k. c.self.inside.connections.items ++ k ∷ []) (c.new-connection.ensures c.args.self.now.bounds.terms)))
+    subst AreHeld (sym (c.in_ok-push.ensures.items ∙ ap (λ k. c.self.inside.connections.items ++ k ∷ []) (c.in_ok-connection.ensures.ok c.args.self.now.bounds.terms)))
     (held_opened c.args.self.now.bounds.terms c.args.conn c.self.inside.connections.items c.self.invariant absent)
