@@ -4,7 +4,7 @@ use Rattle.command_files.specs.script_text.declared.event.ScriptEvent.{ScriptEve
 use Rattle.command_files.specs.wire_io.Files.{Files}
 use Rattle.command_files.specs.wire_io.Pieces.{pieces}
 use Rattle.session_hub.specs.serve.Loops.{buffer_length}
-use Rattle.command_words.specs.command.Command.{Why}
+use Rattle.command_words.specs.command.Command.{CommandView, IsCommand, Serve, Why}
 use Rattle.command_files.specs.dir_tree.Entry.{EntryInformation}
 use Rattle.command_files.specs.declared.changing.ChangesCause.{ChangesCause}
 use Rattle.command_files.specs.declared.loading.SecondFile.{SecondFile}
