@@ -5,7 +5,7 @@ ghost use Rattle.dir_tree.specs.tree.Numbered.{entries_of};
 ghost use Rattle.session_model.specs.Run as run;
 ghost use Rattle.session_model.specs.Kept.{kept_of, queue_of, closing_of, cut_of, taken_off, forgotten};
 ghost use Rattle.session_hub.specs.Rooms.{room_of, queued_beside, HearsWithin};
-ghost use Rattle.session_hub.specs.FirstAnswers.{AnswersFirst, HearsFirst};
+ghost use Rattle.session_hub.specs.FirstAnswers.{HearsFirst};
 ghost use Rattle.session_hub.specs.hub.Hubs.{held, no_hub, Hears, HearsAnywhere, OpensOne, IsBounded, unread_of};
 ghost use Rattle.session_hub.specs.hub.Following.{FollowsStart, FollowsStep, FollowsAnywhere, FollowsTaking, QueuesReply, ClosesWith, RequestsAs, LeavesUnread, CountsHeld};
 ghost use Rattle.session_hub.specs.Event.{step_by};
@@ -218,7 +218,18 @@ impl Hub {
         match event {
             Event::Opened(conn) => self.open(conn),
             Event::Bytes(conn, piece) => {
-                self.hear_piece(dir, conn, piece);
+                let allowed = self.allowance(conn);
+                let cut = hear_at(
+                    self.alloc,
+                    dir,
+                    &mut self.connections,
+                    &mut self.last,
+                    conn,
+                    piece,
+                    allowed,
+                    &mut self.unstored,
+                );
+                self.was_cut |= cut;
                 Ok(())
             }
             Event::Ended(conn) => {
@@ -250,29 +261,6 @@ impl Hub {
         ensures bounds { self.new.bounds ≡ self.old.bounds }
     {
         end_at(&mut self.connections, self.last, conn);
-    }
-
-    fn hear_piece<D: Dir>(&mut self, dir: &mut D, conn: u32, piece: &[u8])
-        ensures heard { Hears self.old.bounds.terms (Event.Bytes conn piece.entry)
-            (held (entries_of (D.rows dir.old)) self.old) (held (entries_of (D.rows dir.new)) self.new) }
-        ensures room { HearsWithin (Event.Bytes conn piece.entry) self.old.bounds
-            (entries_of (D.rows dir.old)) self.old.kept self.new.kept }
-        ensures first { AnswersFirst conn piece.now self.old.kept self.new.kept }
-        ensures bounds { self.new.bounds ≡ self.old.bounds }
-    {
-        let allowed = self.allowance(conn);
-        let connections = &mut self.connections;
-        let cut = hear_at(
-            self.alloc,
-            dir,
-            connections,
-            &mut self.last,
-            conn,
-            piece,
-            allowed,
-            &mut self.unstored,
-        );
-        self.was_cut |= cut;
     }
 
     /// What the connection is allowed now, by what waits for the others.
