@@ -8,6 +8,19 @@ ghost use Rattle.ldap_msg.specs.reading.Heads.{frame_of, HasHead, HasContent};
 use crate::kinds::{Frame, Framed, MAX_CONTENT};
 use ber_elements::{Header, header};
 
+impl Framed {
+    /// The same, without where the content begins.
+    pub fn frame(self) -> Frame
+        ensures { result ≡ frame_of self }
+    {
+        match self {
+            Framed::Whole { length, .. } => Frame::Whole(length),
+            Framed::More => Frame::More,
+            Framed::Bad => Frame::Bad,
+        }
+    }
+}
+
 #[tactic(auto, unfolding(crate::specs::Streams::frame_at, crate::specs::Streams::framed))]
 fn framing(bytes: &[u8]) -> Framed
     ensures frame { frame_of result ≡ frame_at bytes.now }
@@ -57,9 +70,5 @@ pub fn frame(bytes: &[u8]) -> Frame
     ensures only { (other : Frame) → IsFrame bytes.now other → result ≡ other }
     ensures exact { result ≡ frame_at bytes.now }
 {
-    match framing(bytes) {
-        Framed::Whole { length, .. } => Frame::Whole(length),
-        Framed::More => Frame::More,
-        Framed::Bad => Frame::Bad,
-    }
+    framing(bytes).frame()
 }

@@ -2,6 +2,7 @@
 use Rattle.std.proofs.Common.{◌≡◌, ℕ, cond, eqb, List, [], ◌++◌, length, take, drop, Option, Some, None, refl, sym, ap, ◌∙◌, arith}
 use Rattle.std.proofs.lemmas.Bool.{eq-eqb}
 use Rattle.std.proofs.lemmas.List.{length-append, length-take-le, take-append-drop, append-nil}
+use Rattle.std.proofs.Math.Seq.{drop-append_seam}
 use Rattle.ber_elements.specs.Heading.{header_at}
 use Rattle.ber_elements.specs.write.Element.{Elem}
 use Rattle.ber_elements.proofs.Theorems.{element_again}
@@ -41,7 +42,7 @@ content_by bytes (framed.Whole head count) frame has =
     let bound = frame_bound bytes count (sym frame) in
     let joins : message ++ drop count bytes ≡ bytes = take-append-drop count bytes in
     let heads : head ≡ length e.header = sym has ∙ ap (λ (s : List ℕ). head_of (header_at s)) (sym joins) ∙ ap head_of (element_again 0x30 outer.content message (drop count bytes) e) in
-    let content : drop head message ≡ outer.content = ? in
+    let content : drop head message ≡ outer.content = ap (λ (n : ℕ). drop n message) heads ∙ ap (drop (length e.header)) e.joined ∙ drop-append_seam e.header outer.content in
     let found : tagged_at 0x30 message ≡ Some (record { tag = 0x30; content = drop head message; rest = [] }) =
     alone outer.content message e ∙ ap (λ (s : List ℕ). Some (record { tag = 0x30; content = s; rest = [] })) (sym content) in
     record {

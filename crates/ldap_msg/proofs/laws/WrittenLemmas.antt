@@ -1,6 +1,6 @@
 -- A written message says itself, and so does a written reply.
-use Rattle.std.proofs.Common.{◌≡◌, ℕ, ◌+◌, ◌<◌, ◌≤◌, eqb, cond, List, [], ◌∷◌, ◌++◌, length, map, Option, Some, None, refl, sym, ap, subst, ◌∙◌, arith, length-append, append-nil}
-use Rattle.std.proofs.lemmas.Bool.{ne_eqb}
+use Rattle.std.proofs.Common.{◌≡◌, ℕ, ◌+◌, ◌%◌, ◌<◌, ◌≤◌, eqb, cond, List, [], ◌∷◌, ◌++◌, length, map, Option, Some, None, refl, sym, ap, subst, ◌∙◌, arith, length-append, append-nil}
+use Rattle.std.proofs.lemmas.Bool.{ne_eqb, eqb-false}
 use Rattle.ber_elements.specs.write.Element.{Elem, IsTag}
 use Rattle.ber_elements.specs.write.Spelling.{header_octets}
 use Rattle.ber_layout.specs.components.Components.{Follows}
@@ -142,18 +142,18 @@ answered_within : (result : LdapResult) (name value : Option (List ℕ)) → Wit
 answered_within result name value = ((omega arith, omega (arith, code_bound result.code)), (tt, (tt, (may_fit name, (may_fit value, tt)))))
 
 ending_is : (kind : Ending) → IsTag (ending_tag kind)
-ending_is ending.Bind = λ e. absurd cc
-ending_is ending.Done = λ e. absurd cc
-ending_is ending.Modify = λ e. absurd cc
-ending_is ending.Add = λ e. absurd cc
-ending_is ending.Delete = λ e. absurd cc
-ending_is ending.Rename = λ e. absurd cc
-ending_is ending.Compare = λ e. absurd cc
+ending_is ending.Bind = eqb-false (0x61 % 32) 31 refl
+ending_is ending.Done = eqb-false (0x65 % 32) 31 refl
+ending_is ending.Modify = eqb-false (0x67 % 32) 31 refl
+ending_is ending.Add = eqb-false (0x69 % 32) 31 refl
+ending_is ending.Delete = eqb-false (0x6b % 32) 31 refl
+ending_is ending.Rename = eqb-false (0x6d % 32) 31 refl
+ending_is ending.Compare = eqb-false (0x6f % 32) 31 refl
 
 tag_is : (kind : Response) → IsTag (response_tag kind)
-tag_is response.Entry = λ e. absurd cc
+tag_is response.Entry = eqb-false (0x64 % 32) 31 refl
 tag_is (response.Ended ending) = ending_is ending
-tag_is response.Extended = λ e. absurd cc
+tag_is response.Extended = eqb-false (0x78 % 32) 31 refl
 
 -- the written content of a reply says it
 pub reply_says : (answer : Reply) → IsShort (reply_content answer) → SaysReply answer (reply_content answer)
