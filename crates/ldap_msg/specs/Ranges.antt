@@ -2,7 +2,6 @@
 -- and their contents have less than 2^32 octets.
 use Rattle.std.specs.Prelude.{ℕ, ◌≤◌}
 use Rattle.ber_layout.specs.Layouts.{IsShort, writes}
-use Rattle.ber_layout.specs.Layouts.Layout.{AnyOctets, End}
 use Rattle.ber_layout.specs.Ranges.{Within}
 use Rattle.ldap_msg.specs.declared.kinds.Request.{Request}
 use Rattle.ldap_msg.specs.declared.kinds.Request.TheVariants as request

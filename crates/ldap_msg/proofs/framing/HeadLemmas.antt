@@ -1,12 +1,11 @@
 -- The content of a whole message stands behind its header, and says what the message says.
 use Rattle.std.proofs.Common.{◌≡◌, ℕ, cond, eqb, List, [], ◌++◌, length, take, drop, Option, Some, None, refl, sym, ap, ◌∙◌, arith}
-use Rattle.std.proofs.lemmas.Bool.{eq-eqb}
 use Rattle.std.proofs.lemmas.List.{length-append, length-take-le, take-append-drop, append-nil}
 use Rattle.std.proofs.Math.Seq.{drop-append_seam}
 use Rattle.ber_elements.specs.Heading.{header_at}
 use Rattle.ber_elements.specs.write.Element.{Elem}
 use Rattle.ber_elements.proofs.Theorems.{element_again}
-use Rattle.ber_layout.specs.element.Pieces.{◌>>=◌, Piece, tagged_at}
+use Rattle.ber_layout.specs.element.Pieces.{◌>>=◌, tagged_at}
 use Rattle.ber_layout.specs.components.Components.{Component, required_of}
 use Rattle.ber_layout.proofs.Theorems.{piece_again}
 use Rattle.ldap_msg.specs.declared.kinds.Framed.{Framed}

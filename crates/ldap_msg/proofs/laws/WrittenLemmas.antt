@@ -1,14 +1,12 @@
 -- A written message says itself, and so does a written reply.
-use Rattle.std.proofs.Common.{◌≡◌, ℕ, ◌+◌, ◌%◌, ◌<◌, ◌≤◌, eqb, cond, List, [], ◌∷◌, ◌++◌, length, map, Option, Some, None, refl, sym, ap, subst, ◌∙◌, arith, length-append, append-nil}
+use Rattle.std.proofs.Common.{◌≡◌, ℕ, ◌%◌, ◌<◌, cond, List, [], ◌∷◌, length, map, Option, Some, None, refl, sym, ap, arith, append-nil}
 use Rattle.std.proofs.lemmas.Bool.{ne_eqb, eqb-false}
-use Rattle.ber_elements.specs.write.Element.{Elem, IsTag}
-use Rattle.ber_elements.specs.write.Spelling.{header_octets}
-use Rattle.ber_layout.specs.components.Components.{Follows}
+use Rattle.ber_elements.specs.write.Element.{IsTag}
 use Rattle.ber_layout.specs.Spellings.{element_octets}
 use Rattle.std.specs.List.{AllByRecursion}
 use Rattle.ber_layout.specs.Layouts.{IsShort, MayFit, writes}
 use Rattle.ber_layout.specs.Ranges.{Within}
-use Rattle.ber_layout.specs.Layouts.Layout.{AnyOctets, End}
+use Rattle.ber_layout.specs.Layouts.Layout.{AnyOctets}
 use Rattle.ber_layout.proofs.Theorems.{element_spells, writes_says, fits_within}
 use Rattle.ldap_msg.specs.declared.kinds.Auth.{Auth}
 use Rattle.ldap_msg.specs.declared.kinds.Auth.TheVariants.{Simple, Other}
@@ -36,7 +34,7 @@ use Rattle.ldap_msg.specs.Binds.{bind_layout, bind_parts, bind_from, auth_parts,
 use Rattle.ldap_msg.specs.Kinds.{modify_layout, modify_parts, add_layout, add_parts, rename_layout, rename_parts, compare_layout, compare_parts, extended_layout, abandon_layout}
 use Rattle.ldap_msg.specs.Search.{scope_number, scope_from, search_layout, search_with, search_parts}
 use Rattle.ldap_filter.proofs.Theorems.{filter_spells, spelled}
-use Rattle.ldap_msg.specs.Controls.{control_parts, controls_from, controls_parts}
+use Rattle.ldap_msg.specs.Controls.{controls_from, controls_parts}
 use Rattle.ldap_msg.specs.reading.Contents.{SaysUpdate, SaysContent, update_octets, content_octets}
 use Rattle.ldap_msg.specs.reading.Messages.{message_layout, message_parts, Says, request_octets}
 use Rattle.ldap_msg.specs.Results.{result_layout, result_parts, entry_layout, entry_parts, answered_layout, answered_parts}

@@ -1,5 +1,5 @@
 -- The result codes without a name here (RFC 4511 4.1.9).
-use Rattle.std.specs.Prelude.{ℕ, Bool, false, List, [], ◌∷◌, ◌==◌, nat_lt, if◌then◌else◌}
+use Rattle.std.specs.Prelude.{ℕ, Bool, false, ◌==◌, nat_lt, if◌then◌else◌}
 
 -- the number is below 128, and none of those that have a name
 abbrev pub is_other_code : ℕ → Bool

@@ -1,5 +1,5 @@
 -- The content of each request: what it says, what is read of it, and what is written (RFC 4511 4.2 to 4.12).
-use Rattle.std.specs.Prelude.{◌≡◌, ℕ, List, [], Option, Some, None}
+use Rattle.std.specs.Prelude.{◌≡◌, ℕ, List, [], Option, Some}
 use Rattle.ber_layout.specs.element.Pieces.{◌>>=◌}
 use Rattle.ber_layout.specs.Layouts.{Layout, Value, Says as SaysLayout, reads, writes}
 use Rattle.ber_layout.specs.Layouts.Layout.{AnyOctets, End}
