@@ -72,6 +72,16 @@ impl Tree {
         }
     }
 
+    /// Whether the number is that of an entry of the name; false where it is not in use.
+    pub fn is_called(&self, no: EntryNo, name: &Dn) -> bool
+        ensures exact { result ≡ is_called no.0 name.now self.now }
+    {
+        match self.at(no) {
+            Some(old) => same(name, old.name()),
+            None => false,
+        }
+    }
+
     /// Gives the entry's place to another of its name, as `replace` does. No name is looked at: such an entry is never
     /// refused, and the error comes where memory is wanted.
     pub fn revise(&mut self, no: EntryNo, entry: Entry) -> Result<Entry, NoMemory>
@@ -213,16 +223,6 @@ impl Tree {
             self.change_here(no, entry, reader)
         } else {
             self.change_path_read(no, entry, reader)
-        }
-    }
-
-    // Whether the number is that of an entry of the name.
-    fn is_called(&self, no: EntryNo, name: &Dn) -> bool
-        ensures exact { result ≡ is_called no.0 name.now self.now }
-    {
-        match self.at(no) {
-            Some(old) => same(name, old.name()),
-            None => false,
         }
     }
 
