@@ -7,14 +7,13 @@ ghost use Rattle.dir_tree.specs.tree.Numbered.{entries_of};
 ghost use Rattle.change_replay.specs.Applied.{add_rows, with_new, with_named, applied_add};
 ghost use Rattle.change_replay.specs.Steps.{HasName, Leads};
 
-use crate::fault::Fault;
 use crate::making::Step;
 use crate::names::name_in;
 use crate::rules::{broken_as_new, taken_refusal};
 use change_records::ldap_msg::{AddRequest, KindValues, ResultCode};
 use dir_tree::dn_names::Dn;
 use dir_tree::{Entry, NoMemory, Tree};
-use op_add_delete::{Fault as ReadFault, new_entry};
+use op_add_delete::{Fault, new_entry};
 use std::alloc::Global;
 
 // Whether the superior of the name is an entry.
@@ -25,15 +24,15 @@ fn has_superior(tree: &Tree, name: &Dn) -> bool
         .is_some()
 }
 
-// The number of the first refusal of an add's table. The error comes where memory is wanted.
-fn add_refusal(alloc: Global, tree: &Tree, entry: &Entry) -> Result<Option<u8>, NoMemory>
+// The first refusal of an add's table. The error comes where memory is wanted.
+fn add_refusal(alloc: Global, tree: &Tree, entry: &Entry) -> Result<Option<ResultCode>, NoMemory>
     ensures ok { IfOk result (λ refusal. refusal ≡ first_some (add_rows (entries_of tree.now) entry.now)) }
 {
     if let Some(code) = taken_refusal(tree, entry.name()) {
         return Ok(Some(code));
     }
     if !has_superior(tree, entry.name()) {
-        return Ok(Some(ResultCode::NoSuchObject.number()));
+        return Ok(Some(ResultCode::NoSuchObject));
     }
     broken_as_new(alloc, tree, entry)
 }
@@ -58,8 +57,7 @@ fn check_named(alloc: Global, tree: &Tree, given: &[KindValues], name: Dn) -> Re
 {
     match new_entry(alloc, name, given) {
         Ok(entry) => check_new(alloc, tree, entry),
-        Err(ReadFault::Refused(code)) => Err(Fault::Refused(code.number())),
-        Err(ReadFault::NoMemory) => Err(Fault::NoMemory),
+        Err(fault) => Err(fault),
     }
 }
 

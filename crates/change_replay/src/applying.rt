@@ -3,17 +3,18 @@
 ghost use Rattle.std.specs.Prelude.{◌≡◌, IfOk};
 ghost use Rattle.dir_tree.specs.plain_values.Answers.{Answers};
 ghost use Rattle.dir_tree.specs.tree.Numbered.{entries_of};
+ghost use Rattle.op_add_delete.specs.reading.Reading.{cause_of};
 ghost use Rattle.change_replay.specs.Applied.{applied};
-ghost use Rattle.change_replay.specs.Steps.{cause_of, HasName, Leads};
+ghost use Rattle.change_replay.specs.Steps.{HasName, Leads};
 
 use crate::adds::check_add;
 use crate::deletes::check_delete;
-use crate::fault::{Fault, refusal};
 use crate::making::{Step, make};
 use crate::modifies::check_modify;
 use crate::renames::check_rename;
 use change_records::ldap_msg::{Request, ResultCode};
 use dir_tree::Tree;
+use op_add_delete::Fault;
 use std::alloc::Global;
 
 // What the request does.
@@ -31,7 +32,7 @@ fn check(alloc: Global, tree: &Tree, request: &Request) -> Result<Step, Fault>
         | Request::Search(_)
         | Request::Compare(_)
         | Request::Abandon(_)
-        | Request::Extended(_, _) => Err(refusal(ResultCode::ProtocolError)),
+        | Request::Extended(_, _) => Err(Fault::Refused(ResultCode::ProtocolError)),
     }
 }
 

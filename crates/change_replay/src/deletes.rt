@@ -5,12 +5,12 @@ ghost use Rattle.dir_tree.specs.tree.Numbered.{entry_of, entries_of};
 ghost use Rattle.change_replay.specs.Applied.{without_target, without_named, applied_delete};
 ghost use Rattle.change_replay.specs.Steps.{HasName, Leads};
 
-use crate::fault::{Fault, refusal};
 use crate::making::Step;
 use crate::names::{name_in, target_in};
 use change_records::ldap_msg::{DeleteRequest, ResultCode};
 use dir_tree::Tree;
 use dir_tree::dn_names::Dn;
+use op_add_delete::Fault;
 use op_add_delete::directory::{NumberedEntry, is_suffix};
 use std::alloc::Global;
 
@@ -21,10 +21,10 @@ fn check_target(tree: &Tree, target: NumberedEntry<'_>) -> Result<Step, Fault>
     ensures named { IfOk result HasName }
 {
     if is_suffix(tree, target) {
-        return Err(refusal(ResultCode::UnwillingToPerform));
+        return Err(Fault::Refused(ResultCode::UnwillingToPerform));
     }
     if tree.has_below(target.number) {
-        return Err(refusal(ResultCode::NotAllowedOnNonLeaf));
+        return Err(Fault::Refused(ResultCode::NotAllowedOnNonLeaf));
     }
     Ok(Step::TakeOut(target.number))
 }

@@ -4,11 +4,11 @@ ghost use Rattle.std.specs.Prelude.{◌≡◌, Some, IfOk};
 ghost use Rattle.dir_tree.specs.plain_values.Answers.{Answers};
 ghost use Rattle.dir_tree.specs.tree.Numbered.{entry_of, entries_of};
 ghost use Rattle.entry_changes.specs.Change.{changed_by};
-ghost use Rattle.change_replay.specs.Applied.{numbered, everything, with_in_place, with_changed, with_changed_named, with_modified, applied_modify};
-ghost use Rattle.change_replay.specs.Steps.{cause_of, HasName, Leads};
+ghost use Rattle.op_add_delete.specs.reading.Reading.{cause_of};
+ghost use Rattle.change_replay.specs.Applied.{everything, with_in_place, with_changed, with_changed_named, with_modified, applied_modify};
+ghost use Rattle.change_replay.specs.Steps.{HasName, Leads};
 
 use crate::everything::Everything;
-use crate::fault::Fault;
 use crate::making::Step;
 use crate::names::{name_in, target_in};
 use crate::rules::broken_in_place;
@@ -17,18 +17,18 @@ use change_records::ldap_msg::{Change, ModifyRequest};
 use dir_tree::dn_names::Dn;
 use dir_tree::{Entry, Tree};
 use entry_changes::{ChangeFault, EntryChange, change_entry};
-use op_add_delete::Fault as ReadFault;
+use op_add_delete::Fault;
 use op_add_delete::directory::NumberedEntry;
 use std::alloc::Global;
 
 // The entry as the changes leave it.
 fn changed(alloc: Global, entry: &Entry, changes: Vec<EntryChange>) -> Result<Entry, Fault>
     ensures exact { Answers (λ left. left) cause_of result
-        (numbered (changed_by everything entry.now changes.items)) }
+        (changed_by everything entry.now changes.items) }
 {
     match change_entry(alloc, &Everything, entry, changes) {
         Ok(left) => Ok(left),
-        Err(ChangeFault::Refused(code)) => Err(Fault::Refused(code.number())),
+        Err(ChangeFault::Refused(code)) => Err(Fault::Refused(code)),
         Err(ChangeFault::NoMemory) => Err(Fault::NoMemory),
     }
 }
@@ -91,8 +91,7 @@ fn check_listed(alloc: Global, tree: &Tree, given: &[Change], name: &Dn) -> Resu
 {
     match read_changes(alloc, given) {
         Ok(changes) => check_named(alloc, tree, name, changes),
-        Err(ReadFault::Refused(code)) => Err(Fault::Refused(code.number())),
-        Err(ReadFault::NoMemory) => Err(Fault::NoMemory),
+        Err(fault) => Err(fault),
     }
 }
 

@@ -11,7 +11,8 @@ ghost use Rattle.op_modify.specs.Steps.{IsChecked};
 
 use dir_tree::{Entry, EntryNo, NoMemory};
 use ldap_msg::LdapResult;
-use op_add_delete::directory::{Dir, Target, result_numbered};
+use op_add_delete::directory::{Dir, Target, result_of};
+use op_add_delete::rule_code;
 use op_add_delete::schema_rules::{Broken, check_entry};
 use std::alloc::{AllocError, Global};
 
@@ -37,7 +38,7 @@ pub(crate) fn rule_refusal<D: Dir>(
     tree.entries_form_a_tree();
     match check_entry(alloc, tree, Some(target.number), entry) {
         Ok(()) => Ok(None),
-        Err(Broken::Rule(code)) => Ok(Some(result_numbered(alloc, code))),
+        Err(Broken::Rule(rule)) => Ok(Some(result_of(alloc, rule_code(rule)))),
         Err(Broken::NoMemory) => Err(AllocError),
     }
 }

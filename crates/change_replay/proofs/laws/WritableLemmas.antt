@@ -23,9 +23,8 @@ use Rattle.change_laws.specs.op_modify.ldap_msg.declared.kinds.Request.{Request}
 use Rattle.change_laws.specs.op_modify.ldap_msg.declared.kinds.Request.TheVariants as request
 use Rattle.change_records.specs.Laws.{WritesKnownTypes}
 use Rattle.change_records.specs.Writable.{IsWritableAttribute, is_standard, IsWritableChange, IsWritableGiven, AreApart, IsWritable}
-use Rattle.change_replay.specs.Applied.{numbered, name_in, with_changed_named, with_modified, applied_modify, with_new, with_named, applied_add, applied}
+use Rattle.change_replay.specs.Applied.{name_in, with_changed_named, with_modified, applied_modify, with_new, with_named, applied_add, applied}
 use Rattle.change_replay.specs.Laws.{HasOctets, ChangesOctets, IsOfOctets}
-use Rattle.change_replay.proofs.laws.StepLemmas.{numbered-value}
 
 -- the type of an attribute that is read is known
 known_by :
@@ -96,8 +95,8 @@ module _ (known : WritesKnownTypes) where
   unfolding applied_modify
   writable-modify entries left modify is octets =
       let name = both_given (name_in modify.name) (with_modified entries modify.changes) left is in
-      let read = both_given (numbered (read_changes modify.changes)) (with_changed_named entries name.0) left name.2 in
-      writable-changes modify.changes read.0 (numbered-value (read_changes modify.changes) read.0 read.1) octets
+      let read = both_given (read_changes modify.changes) (with_changed_named entries name.0) left name.2 in
+      writable-changes modify.changes read.0 read.1 octets
 
   -- ---- adds
   given-read :
@@ -184,8 +183,8 @@ module _ (known : WritesKnownTypes) where
   unfolding applied_add
   writable-add entries left add is octets =
       let name = both_given (name_in add.name) (with_named entries add.attributes) left is in
-      let read = both_given (numbered (read_attributes add.attributes)) (λ attributes. with_new entries (new_entry name.0 attributes)) left name.2 in
-      writable-given add.attributes read.0 (numbered-value (read_attributes add.attributes) read.0 read.1) octets
+      let read = both_given (read_attributes add.attributes) (λ attributes. with_new entries (new_entry name.0 attributes)) left name.2 in
+      writable-given add.attributes read.0 read.1 octets
 
   -- ---- any request
   pub writable-applied :
