@@ -1,13 +1,13 @@
 -- How a change is applied step by step: what is to be done with the tree, and what a call answers for it.
-use Rattle.std.specs.Prelude.{◌≡◌, ◌≢◌, ℕ, List, [], Option, Some, None, Result, Ok, Err}
+use Rattle.std.specs.Prelude.{◌≡◌, ◌≢◌, ℕ, true, List, [], Option, Some, None, Result, Ok, Err}
 use Rattle.dir_tree.specs.plain_values.Answers.{IsFaultOf}
 use Rattle.dir_tree.specs.Entry.{EntryInformation}
 use Rattle.dir_tree.specs.tree.Trees.{put_in, taken_out}
-use Rattle.dir_tree.specs.tree.Numbered.{Numbered, entries_of, entry_of}
+use Rattle.dir_tree.specs.tree.Numbered.{Numbered, entries_of, entry_of, is_called}
 use Rattle.change_replay.specs.declared.fault.Fault.{Fault}
 use Rattle.change_replay.specs.declared.fault.Fault.TheVariants as fault
 use Rattle.change_replay.specs.declared.making.Step.{Step}
-use Rattle.change_replay.specs.declared.making.Step.TheVariants.{TakeOut, PutIn, Replace}
+use Rattle.change_replay.specs.declared.making.Step.TheVariants.{TakeOut, PutIn, Replace, Revise}
 
 -- the number of the code of a fault; want of memory has none
 abbrev pub cause_of : Fault → Option ℕ
@@ -31,12 +31,14 @@ abbrev pub IsStep : List Numbered → Step → Result (List EntryInformation) �
 IsStep rows (TakeOut number) expected = TakesOut rows number.0 expected
 IsStep rows (PutIn entry) expected = expected ≡ Ok (put_in entry (entries_of rows))
 IsStep rows (Replace number entry) expected = Replaces rows number.0 entry expected
+IsStep rows (Revise number entry) expected = Replaces rows number.0 entry expected
 
--- an entry that comes has a name
-abbrev pub HasName : Step → Type 0
-HasName (TakeOut number) = Unit {0}
-HasName (PutIn entry) = entry.name ≢ []
-HasName (Replace number entry) = Unit {0}
+-- an entry that is put in has a name, and one that keeps the name of that of the number has it
+abbrev pub HasName : List Numbered → Step → Type 0
+HasName rows (TakeOut number) = Unit {0}
+HasName rows (PutIn entry) = entry.name ≢ []
+HasName rows (Replace number entry) = Unit {0}
+HasName rows (Revise number entry) = is_called number.0 entry.name rows ≡ true
 
 -- what a call answers: a step that is what the change leaves, or the fault of the change
 abbrev pub Leads : List Numbered → Result Step Fault → Result (List EntryInformation) ℕ → Type 0
