@@ -20,7 +20,7 @@ use std::alloc::Global;
 // What the request does.
 fn check(alloc: Global, tree: &Tree, request: &Request) -> Result<Step, Fault>
     ensures exact { Leads tree.now result (applied (entries_of tree.now) request.now) }
-    ensures named { IfOk result HasName }
+    ensures named { IfOk result (HasName tree.now) }
 {
     match request {
         Request::Modify(modify) => check_modify(alloc, tree, modify),
