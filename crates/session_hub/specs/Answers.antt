@@ -11,6 +11,7 @@ use Rattle.session_hub.specs.declared.spoken.SpeechEnd.{SpeechEnd}
 use Rattle.session_hub.specs.declared.spoken.SpeechEnd.TheVariants.{StaysOpen, Closes, IsCut, IsFull}
 use Rattle.session_hub.specs.Outgoing.{Put}
 use Rattle.session_hub.specs.Answering.{rules, Operated, sent_octets}
+use Rattle.session_hub.specs.ShortAnswers.{AreShortReplies}
 use Rattle.session_hub.specs.Rooms.{HasRoom, queued_after}
 
 -- the octets put of replies and of changes, the entries and the requester left, and whether the connection closes are those of
@@ -22,10 +23,11 @@ pub record Gives (answered : Answered DirectoryEntries Requester) (old new : Put
   pub asker : who ≡ answered.who
   pub closed : closes ≡ answered.closes
 
--- what was sent is the replies of an operation to the message of this number, and the entries and the requester are those
--- that it leaves
+-- what was sent is the replies of an operation to the message of this number, each of which is short, and the entries and the
+-- requester are those that it leaves
 pub record Sends (id : ℕ) (came : Operated) (old new : List ℕ) (entries : DirectoryEntries) (who : Requester) : Type 0 where
   pub said : new ≡ old ++ sent_octets id came.replies came.cookie
+  pub short : AreShortReplies id came
   pub left : entries ≡ came.entries
   pub asker : who ≡ came.who
 

@@ -1,12 +1,13 @@
 //! Binds answered.
 
-ghost use Rattle.std.specs.Prelude.{◌≡◌, ◌≤◌, ◌+◌, ◌++◌, ℕ, Bool, List, [], ◌∷◌, vec_len, vec_capacity, IsOk, IfOk, OnOk, OnErr, Some};
+ghost use Rattle.std.specs.Prelude.{◌≡◌, ◌≤◌, ◌+◌, ℕ, Bool, List, [], ◌∷◌, vec_len, vec_capacity, IsOk, IfOk, OnOk, OnErr, Some};
 ghost use Rattle.dir_tree.specs.tree.Numbered.{entries_of};
 ghost use Rattle.session_model.specs.ldap_msg.declared.kinds.Reply.TheVariants as reply;
 ghost use Rattle.op_read.specs.read_model.Views.{result_of as result_with};
-ghost use Rattle.op_read.specs.read_model.SearchReplies.{replies_octets};
+ghost use Rattle.op_read.specs.Short.{Puts};
 ghost use Rattle.session_hub.specs.Answering.{bound, answer_read};
 ghost use Rattle.session_hub.specs.Answers.{Gives, Sends};
+ghost use Rattle.session_hub.specs.ShortAnswers.{IsShortAnswer};
 ghost use Rattle.session_hub.specs.SimpleBinds.{message_for};
 
 use crate::results::result_of;
@@ -25,8 +26,9 @@ fn put_bound(
     bound: Bound,
     out: &mut Vec<u8>,
 ) -> Result<(), AllocError>
-    ensures ok { OnOk result (out.new.items ≡ out.old.items
-        ++ replies_octets id (reply.Bind (result_with bound.code) ∷ [])) }
+    ensures ok { OnOk result (Puts id
+        (reply.Bind (result_with bound.code) ∷ [])
+        out.old.items out.new.items) }
     ensures asked { OnOk result (who.new ≡ bound.who) }
     ensures err { OnErr result (out.new.items ≡ out.old.items) }
     ensures kept { OnErr result (who.new ≡ who.old) }
@@ -69,6 +71,7 @@ pub fn answer_simple_bind<D: Dir>(
         Gives (answer_read keeps (entries_of (D.rows dir.now)) who.old (Some (message_for request.now)))
         (record { replies = out.old.items; changes = changes }) (record { replies = out.new.items; changes = changes })
         (entries_of (D.rows dir.now)) who.new closes) }
+    ensures short { OnOk result (IsShortAnswer (entries_of (D.rows dir.now)) who.old (Some (message_for request.now))) }
     ensures err { OnErr result (out.new.items ≡ out.old.items) }
     ensures kept { OnErr result (who.new ≡ who.old) }
     ensures succeeds { request.now.name.now ≡ [] → request.now.id ≤ 2147483647 → vec_len out.old + 17 ≤ vec_capacity out.old → IsOk result }

@@ -5,7 +5,7 @@ ghost use Rattle.dir_tree.specs.tree.Numbered.{entries_of};
 ghost use Rattle.session_model.specs.ldap_msg.Streams.{frame_at};
 ghost use Rattle.session_model.specs.ldap_msg.declared.operations.ResultCode.TheVariants as code;
 ghost use Rattle.op_read.specs.read_model.Views.{view_of};
-ghost use Rattle.op_read.specs.read_model.SearchReplies.{replies_octets};
+ghost use Rattle.op_read.specs.Short.{IsShortPage, Puts};
 ghost use Rattle.op_read.specs.read_model.CompareReplies.{compare_result};
 ghost use Rattle.session_model.specs.ldap_msg.declared.kinds.Reply.TheVariants as reply;
 ghost use Rattle.change_laws.specs.op_add_delete.adding.Updates.{IsChanged};
@@ -16,6 +16,7 @@ ghost use Rattle.session_hub.specs.Controls.{subentries_asked, page_asked};
 ghost use Rattle.session_hub.specs.Answering.{rules, response_to as response_of, replies_in, ended_with, asking, searched, answer_octets, change_of, changing, kept_changes, operated, answered, is_unbind, answer_read};
 ghost use Rattle.session_hub.specs.Outgoing.{put_in};
 ghost use Rattle.session_hub.specs.Answers.{Gives, Sends};
+ghost use Rattle.session_hub.specs.ShortAnswers.{IsShortAnswer, IsAnsweredShort};
 ghost use Rattle.session_hub.specs.FirstAnswers.{IsAnonymousBind};
 ghost use Rattle.session_hub.specs.Limiting.{limited_message, lesser_limit};
 
@@ -57,8 +58,9 @@ fn response_to(request: &Request, ended: LdapResult) -> Option<Reply>
 
 /// Appends the response with this result, if the request has one.
 fn put_response(message: &Message, ended: LdapResult, out: &mut Vec<u8>) -> Result<(), AllocError>
-    ensures ok { OnOk result (out.new.items ≡ out.old.items
-        ++ replies_octets message.now.id (replies_in (response_of message.now.request ended))) }
+    ensures ok { OnOk result (Puts message.now.id
+        (replies_in (response_of message.now.request ended))
+        out.old.items out.new.items) }
     ensures err { OnErr result (out.new.items ≡ out.old.items) }
 {
     match response_to(&message.request, ended) {
@@ -74,8 +76,9 @@ fn put_ended(
     code: ResultCode,
     out: &mut Vec<u8>,
 ) -> Result<(), AllocError>
-    ensures ok { OnOk result (out.new.items
-        ≡ out.old.items ++ replies_octets message.now.id (ended_with code message.now.request)) }
+    ensures ok { OnOk result (Puts message.now.id
+        (ended_with code message.now.request)
+        out.old.items out.new.items) }
     ensures err { OnErr result (out.new.items ≡ out.old.items) }
 {
     put_response(message, result_of(alloc, code), out)
@@ -93,6 +96,7 @@ fn begin_asking(who: &mut Requester, request: &Request)
 /// Appends that a search's controls can't be read.
 fn put_unread(alloc: Global, id: u32, out: &mut Vec<u8>) -> Result<(), AllocError>
     ensures ok { OnOk result (out.new.items ≡ out.old.items ++ answer_octets id (unread code.ProtocolError)) }
+    ensures short { OnOk result (IsShortPage id (unread code.ProtocolError)) }
     ensures err { OnErr result (out.new.items ≡ out.old.items) }
 {
     let ended = result_of(alloc, ResultCode::ProtocolError);
@@ -111,6 +115,9 @@ fn put_asked<D: Dir>(
     out: &mut Vec<u8>,
 ) -> Result<(), AllocError>
     ensures ok { OnOk result (out.new.items ≡ out.old.items ++ answer_octets message.now.id
+        (searched (view_of (entries_of (D.rows dir.now)) who.now) request.now (Some subentries)
+        (page_asked message.now.controls))) }
+    ensures short { OnOk result (IsShortPage message.now.id
         (searched (view_of (entries_of (D.rows dir.now)) who.now) request.now (Some subentries)
         (page_asked message.now.controls))) }
     ensures err { OnErr result (out.new.items ≡ out.old.items) }
@@ -142,6 +149,9 @@ fn put_search<D: Dir>(
     ensures ok { OnOk result (out.new.items ≡ out.old.items ++ answer_octets message.now.id
         (searched (view_of (entries_of (D.rows dir.now)) who.now) request.now
         (subentries_asked message.now.controls) (page_asked message.now.controls))) }
+    ensures short { OnOk result (IsShortPage message.now.id
+        (searched (view_of (entries_of (D.rows dir.now)) who.now) request.now
+        (subentries_asked message.now.controls) (page_asked message.now.controls))) }
     ensures err { OnErr result (out.new.items ≡ out.old.items) }
 {
     match subentries_asked(message.controls.as_slice()) {
@@ -161,8 +171,9 @@ fn put_compare<D: Dir>(
     request: &CompareRequest,
     out: &mut Vec<u8>,
 ) -> Result<(), AllocError>
-    ensures ok { OnOk result (out.new.items ≡ out.old.items ++ replies_octets id
-        (reply.Compare (compare_result (view_of (entries_of (D.rows dir.now)) who.now) request.now) ∷ [])) }
+    ensures ok { OnOk result (Puts id
+        (reply.Compare (compare_result (view_of (entries_of (D.rows dir.now)) who.now) request.now) ∷ [])
+        out.old.items out.new.items) }
     ensures err { OnErr result (out.new.items ≡ out.old.items) }
 {
     let found = compare(alloc, dir, who, request)?;
@@ -215,8 +226,8 @@ fn put_accepted(
     keeps: bool,
     out: &mut Outgoing,
 ) -> Result<(), AllocError>
-    ensures ok { OnOk result (out.new.replies.items ≡ out.old.replies.items
-        ++ replies_octets message.now.id (ended_with code.Success message.now.request)) }
+    ensures ok { OnOk result (Puts message.now.id (ended_with code.Success message.now.request)
+        out.old.replies.items out.new.replies.items) }
     ensures recorded { OnOk result (out.new.changes.items ≡ out.old.changes.items
         ++ kept_changes keeps (record_text message.now.request)) }
     ensures err { OnErr result (out.new.replies.items ≡ out.old.replies.items) }
@@ -244,8 +255,8 @@ fn put_refusal(
 ) -> Result<(), AllocError>
     requires replies { first ≤ vec_len out.old.replies }
     requires changes { kept ≤ vec_len out.old.changes }
-    ensures ok { OnOk result (out.new.replies.items ≡ take first out.old.replies.items
-        ++ replies_octets message.now.id (replies_in (response_of message.now.request refusal))) }
+    ensures ok { OnOk result (Puts message.now.id (replies_in (response_of message.now.request refusal))
+        (take first out.old.replies.items) out.new.replies.items) }
     ensures err { OnErr result (out.new.replies.items ≡ take first out.old.replies.items) }
     ensures unrecorded { out.new.changes.items ≡ take kept out.old.changes.items }
 {
@@ -347,8 +358,9 @@ fn refuse(
     message: &Message,
     out: &mut Vec<u8>,
 ) -> Result<(), AllocError>
-    ensures ok { OnOk result (out.new.items ≡ out.old.items ++ replies_octets message.now.id
-        (ended_with code.UnavailableCriticalExtension message.now.request)) }
+    ensures ok { OnOk result (Puts message.now.id
+        (ended_with code.UnavailableCriticalExtension message.now.request)
+        out.old.items out.new.items) }
     ensures asked { OnOk result (who.new ≡ asking who.old message.now.request) }
     ensures err { OnErr result (out.new.items ≡ out.old.items) }
     ensures kept { OnErr result (who.new ≡ who.old) }
@@ -407,6 +419,7 @@ fn answer_message<D: Dir>(
     ensures ok { IfOk result (λ closes.
         Gives (answer_read allowed.terms.keeps (entries_of (D.rows dir.old)) who.old (Some message.now))
         (put_in out.old) (put_in out.new) (entries_of (D.rows dir.new)) who.new closes) }
+    ensures short { OnOk result (IsShortAnswer (entries_of (D.rows dir.old)) who.old (Some message.now)) }
     ensures err { OnErr result (out.new.replies.items ≡ out.old.replies.items) }
     ensures unrecorded { OnErr result (out.new.changes.items ≡ out.old.changes.items) }
     ensures kept { OnErr result (who.new ≡ who.old) }
@@ -461,6 +474,8 @@ fn answer_any<D: Dir>(
 ) -> Result<bool, AllocError>
     ensures ok { IfOk result (λ closes. Gives ((rules allowed.terms).answer (entries_of (D.rows dir.old)) who.old bytes.now)
         (put_in out.old) (put_in out.new) (entries_of (D.rows dir.new)) who.new closes) }
+    ensures short { OnOk result (IsAnsweredShort allowed.terms
+        (record { tree = entries_of (D.rows dir.old); who = who.old; message = bytes.now })) }
     ensures err { OnErr result (out.new.replies.items ≡ out.old.replies.items) }
     ensures unrecorded { OnErr result (out.new.changes.items ≡ out.old.changes.items) }
     ensures asker { OnErr result (who.new ≡ who.old) }
@@ -492,6 +507,9 @@ pub fn answer<D: Dir>(
     requires { frame_at bytes.now ≡ Frame.Whole (length bytes.now) }
     ensures ok { IfOk result (λ closes. Gives ((rules allowed.terms).answer (entries_of (D.rows dir.old)) who.old bytes.now)
         (put_in out.old) (put_in out.new) (entries_of (D.rows dir.new)) who.new closes) }
+    // So each reply is read again.
+    ensures short { OnOk result (IsAnsweredShort allowed.terms
+        (record { tree = entries_of (D.rows dir.old); who = who.old; message = bytes.now })) }
     ensures err { OnErr result (out.new.replies.items ≡ out.old.replies.items) }
     ensures unrecorded { OnErr result (out.new.changes.items ≡ out.old.changes.items) }
     ensures asker { OnErr result (who.new ≡ who.old) }

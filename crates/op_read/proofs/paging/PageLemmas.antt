@@ -1,6 +1,6 @@
 -- A page of what is selected behind a name, by what was found.
-use Rattle.std.proofs.Common.{◌≡◌, ◌≢◌, ◌⊎◌, inl, inr, ℕ, Bool, true, false, List, [], ◌∷◌, ◌++◌, Option, Some, refl, sym, ap, ◌∙◌, map, filter, take, length, append_assoc, arith}
-use Rattle.std.specs.Prelude.{nat_lt, flat_map, if◌then◌else◌}
+use Rattle.std.proofs.Common.{◌≡◌, ◌≢◌, ◌⊎◌, inl, inr, ℕ, Bool, true, false, List, [], ◌∷◌, ◌++◌, Option, Some, refl, sym, ap, ◌∙◌, subst, map, filter, take, length, arith}
+use Rattle.std.specs.Prelude.{nat_lt, if◌then◌else◌}
 use Rattle.std.specs.List.{list_any}
 use Rattle.std.proofs.lemmas.Bool.{cases_Bool, ne_eqb, le-ltb}
 use Rattle.std.proofs.Math.Seq.{take-nil}
@@ -15,14 +15,14 @@ use Rattle.page_core.specs.read_model.Views.{View, Row, has_name, discloses, hid
 use Rattle.page_core.specs.read_model.Selecting.{selected, is_selected}
 use Rattle.page_core.specs.read_model.Choosing.{sent_entry}
 use Rattle.page_core.specs.read_model.SearchReplies.{within_limit, limit_code, nothing_found, found_replies, replies_at}
-use Rattle.page_core.specs.Endings.{page_end}
 use Rattle.page_core.specs.Starts.{is_after}
-use Rattle.page_core.specs.Pages.{Paged, paged_octets, unpaged, last_name, next_cookie, page_of_rows, unlimited, is_success}
+use Rattle.page_core.specs.Pages.{Paged, unpaged, last_name, next_cookie, page_of_rows, unlimited, is_success}
 use Rattle.op_read.specs.declared.sending.Found.{Found}
 use Rattle.op_read.specs.declared.sending.Found.TheVariants.{Nothing, Some as FoundSome, TooMany}
-use Rattle.op_read.specs.Paging.{empty_page, is_done, page_of_none, page_ending, page_at}
-use Rattle.op_read.specs.Sending.{is_filled, last_row, entry_octets, IsSent}
-use Rattle.op_read.proofs.sending.SendingLemmas.{entries-octets}
+use Rattle.op_read.specs.Paging.{ending_page, empty_page, is_done, page_of_none, page_ending, page_at}
+use Rattle.op_read.specs.Sending.{is_filled, last_row, sent_entries, IsSent}
+use Rattle.op_read.specs.Short.{Puts, PutsPage}
+use Rattle.op_read.proofs.sending.PutsLemmas.{puts-same, puts-page, page-sent}
 
 -- ---- the whole search
 
@@ -69,12 +69,6 @@ filled-behind : (p : Row → Bool) (rows : View) → is_filled (filter p rows) �
 filled-behind p [] e = absurd cc
 filled-behind p (row ∷ rows) e = refl
 
--- the octets of a page of these rows
-rows-octets : (id : ℕ) (request : SearchRequest) (size : ℕ) (rows : View)
-    → paged_octets id (page_of_rows request size rows) ≡ flat_map (entry_octets id request) (take size rows) ++ page_end id (next_cookie size rows)
-unfolding paged_octets
-rows-octets id request size rows = ap (λ entries. entries ++ page_end id (next_cookie size rows)) (entries-octets id request (take size rows))
-
 -- how many there are, by the code
 not-more : (size : ℕ) (rows : View) → size ≢ 0 → limit_code size rows ≡ code.Success → nat_lt size (length rows) ≡ false
 not-more size rows some e = by (cases_Bool (nat_lt size (length rows)))
@@ -106,17 +100,12 @@ at-done view request subentries base size after done = rw done refl
 
 -- rows were sent, and then the end of a page with this cookie
 page-rows : (id : ℕ) (request : SearchRequest) (size : ℕ) (rows : View) (before middle new cookie : List ℕ) (page : Paged) → size ≢ 0
-    → middle ≡ before ++ flat_map (entry_octets id request) (within_limit size rows) → new ≡ middle ++ page_end id cookie → cookie ≡ next_cookie size rows → page_of_rows request size rows ≡ page
-    → new ≡ before ++ paged_octets id page
+    → Puts id (sent_entries request (within_limit size rows)) before middle → PutsPage id (ending_page cookie) middle new → cookie ≡ next_cookie size rows → page_of_rows request size rows ≡ page
+    → PutsPage id page before new
 page-rows id request size rows before middle new cookie page some sent put is whole =
-    put
-    ∙ ap (λ out. out ++ page_end id cookie) sent
-    ∙ append_assoc before (flat_map (entry_octets id request) (within_limit size rows)) (page_end id cookie)
-    ∙ ap (λ octets. before ++ octets)
-    (ap (λ (rows : View). flat_map (entry_octets id request) rows ++ page_end id cookie) (within-take size rows some)
-    ∙ ap (λ (cookie : List ℕ). flat_map (entry_octets id request) (take size rows) ++ page_end id cookie) is
-    ∙ sym (rows-octets id request size rows)
-    ∙ ap (paged_octets id) whole)
+    page-sent id before new _ page
+    (puts-page id (sent_entries request (take size rows)) cookie before middle new (puts-same id _ _ before middle (ap (sent_entries request) (within-take size rows some)) sent) put)
+    (ap (λ (cookie : List ℕ). record { replies = sent_entries request (take size rows); cookie = Some cookie }) is ∙ whole)
 
 -- ---- a page behind whose name no entry is
 
@@ -163,13 +152,12 @@ page-nothing view request subentries base size after here none =
 
 pub page-ended : (at : Option EntryNo → View) (id : ℕ) (view : View) (request : SearchRequest) (subentries : Option Bool) (base after : RdnSequence) (size : ℕ) (found : Found) (before middle new : List ℕ)
     → size ≢ 0 → list_any (has_name base) view ≡ true
-    → IsSent at size (entry_octets id request) (filter (is_after after) (selected view request subentries base)) before middle found
-    → new ≡ middle ++ page_ending at id view (selected view request subentries base) base found
-    → new ≡ before ++ paged_octets id (page_at view request subentries base size after)
+    → IsSent at size id request (filter (is_after after) (selected view request subentries base)) before middle found
+    → PutsPage id (page_ending at view (selected view request subentries base) base found) middle new
+    → PutsPage id (page_at view request subentries base size after) before new
 page-ended at id view request subentries base after size Nothing before middle new some here sent put =
-    put
-    ∙ ap (λ out. out ++ paged_octets id (page_of_none view (selected view request subentries base) base)) sent.1
-    ∙ ap (λ (page : Paged). before ++ paged_octets id page) (page-nothing view request subentries base size after here sent.0)
+    page-sent id before new (page_of_none view (selected view request subentries base) base) (page_at view request subentries base size after)
+    (subst (λ out. PutsPage id (page_of_none view (selected view request subentries base) base) out new) sent.1 put) (page-nothing view request subentries base size after here sent.0)
 page-ended at id view request subentries base after size FoundSome before middle new some here sent put =
     let rows = filter (is_after after) (selected view request subentries base) in
     let last : [] ≡ next_cookie size rows = rw (not-more size rows some sent.1) refl in

@@ -6,8 +6,9 @@ use Rattle.ldap_msg.specs.declared.kinds.Reply.TheVariants as reply
 use Rattle.page_core.specs.read_model.Selecting.{selected}
 use Rattle.page_core.specs.Pages.{unpaged}
 use Rattle.directory.specs.Asking.{view_in}
-use Rattle.op_read.specs.Paging.{page_of_none}
-use Rattle.op_read.proofs.paging.CaseLemmas.{empty-sent, unpaged-sent, none-done, none-fails}
+use Rattle.op_read.specs.Paging.{empty_page, page_of_none}
+use Rattle.op_read.proofs.sending.PutsLemmas.{page-sent, unpaged-sent}
+use Rattle.op_read.proofs.paging.CaseLemmas.{none-done, none-fails}
 use Rattle.op_read.proofs.paging.put_none.Goals as goal
 
 pub returns-then-is_done-clause-ok : goal.returns-then-is_done-clause-ok
@@ -16,11 +17,11 @@ returns-then-is_done-clause-ok g c =
     let search = c.args.search.now in
     let base = c.args.base.now in
     let all = selected view search.request.now search.subentries base in
-    on_ok_weaker c.put_page_end.result
+    on_ok_weaker c.put_end.result
     (λ put.
-    empty-sent search.id c.args.out.now.items c.put_page_end.new.out.items (page_of_none view all base) put
+    page-sent search.id c.args.out.now.items c.put_end.new.out.items empty_page (page_of_none view all base) put
     (none-done view all base (sym c.is_done.ensures.exact ∙ c.if-is_done.true)))
-    c.put_page_end.ensures.ok
+    c.put_end.ensures.ok
 
 pub returns-clause-ok : goal.returns-clause-ok
 returns-clause-ok g c =

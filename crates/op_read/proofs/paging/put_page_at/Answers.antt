@@ -8,7 +8,7 @@ use Rattle.directory.specs.Asking.{view_in}
 use Rattle.op_read.specs.Paging.{page_at}
 use Rattle.op_read.proofs.selecting.SelectingLemmas.{named-rows}
 use Rattle.op_read.proofs.paging.PageLemmas.{page-none}
-use Rattle.op_read.proofs.paging.CaseLemmas.{unpaged-sent}
+use Rattle.op_read.proofs.sending.PutsLemmas.{unpaged-sent}
 use Rattle.op_read.proofs.paging.put_page_at.Goals as goal
 
 pub returns-in-None-clause-ok : goal.returns-in-None-clause-ok

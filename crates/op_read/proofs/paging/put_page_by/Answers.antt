@@ -8,7 +8,8 @@ use Rattle.ldap_msg.specs.declared.kinds.Reply.TheVariants as reply
 use Rattle.page_core.specs.Pages.{unpaged, page_by}
 use Rattle.directory.specs.Asking.{view_in}
 use Rattle.op_read.specs.Paging.{page_named}
-use Rattle.op_read.proofs.paging.CaseLemmas.{page-sent, unpaged-sent, by-name, by-none}
+use Rattle.op_read.proofs.sending.PutsLemmas.{page-sent, unpaged-sent}
+use Rattle.op_read.proofs.paging.CaseLemmas.{by-name, by-none}
 use Rattle.op_read.proofs.paging.put_page_by.Goals as goal
 
 pub returns-in-Some-clause-ok : goal.returns-in-Some-clause-ok

@@ -9,7 +9,7 @@ use Rattle.page_core.specs.Pages.{unpaged}
 use Rattle.page_core.specs.Starts.{start_of}
 use Rattle.directory.specs.Asking.{view_in}
 use Rattle.op_read.specs.Paging.{page_from_at}
-use Rattle.op_read.proofs.paging.CaseLemmas.{page-sent, unpaged-sent}
+use Rattle.op_read.proofs.sending.PutsLemmas.{page-sent, unpaged-sent}
 use Rattle.op_read.proofs.paging.put_page_from.Goals as goal
 
 pub returns-in-Some-clause-ok : goal.returns-in-Some-clause-ok
