@@ -7,6 +7,7 @@ use Rattle.dir_tree.specs.declared.number.EntryNo.{EntryNo}
 use Rattle.ldap_msg.specs.declared.operations.ResultCode.TheVariants as code
 use Rattle.ldap_msg.specs.declared.kinds.SearchRequest.{SearchRequest}
 use Rattle.ldap_msg.specs.declared.kinds.Reply.TheVariants as reply
+use Rattle.ldap_msg.specs.declared.operations.Ending.TheVariants as ending
 use Rattle.page_core.specs.read_model.Views.{View, discloses, no_such_object}
 use Rattle.page_core.specs.read_model.RootEntry.{root_replies}
 use Rattle.page_core.specs.read_model.Selecting.{selected}
@@ -33,7 +34,7 @@ is_done view all base = discloses view base || is_filled all
 -- a page behind whose name no entry is
 abbrev pub page_of_none : View → View → RdnSequence → Paged
 page_of_none view all base =
-    if is_done view all base then empty_page else unpaged (reply.Done (no_such_object view base) ∷ [])
+    if is_done view all base then empty_page else unpaged (reply.Ended ending.Done (no_such_object view base) ∷ [])
 
 -- how a page ends, by what was found for it
 abbrev pub page_ending : (Option EntryNo → View) → View → View → RdnSequence → Found → Paged

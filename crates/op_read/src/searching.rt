@@ -6,6 +6,7 @@ ghost use Rattle.dir_tree.specs.tree.Trees.{named_in};
 ghost use Rattle.dir_tree.specs.tree.Numbered.{IsNumberedTree, entries_of, find_name};
 ghost use Rattle.ldap_msg.specs.ber_layout.Spellings.{Extends};
 ghost use Rattle.ldap_msg.specs.declared.kinds.Reply.TheVariants as reply;
+ghost use Rattle.ldap_msg.specs.declared.operations.Ending.TheVariants as ending;
 ghost use Rattle.page_core.specs.read_model.Views.{view_of, hidden};
 ghost use Rattle.page_core.specs.read_model.Selecting.{is_shown, selected};
 ghost use Rattle.page_core.specs.read_model.RootEntry.{finds_root, root_entry, root_replies};
@@ -99,7 +100,7 @@ pub(crate) fn put_absent<D: Dir>(
 ) -> Result<(), NoMemory>
     requires none { named_in base.now (entries_of (D.rows asking.now.dir.now)) ≡ None }
     ensures ok { OnOk result (Puts id
-        (reply.Done (hidden (view_in (D.rows asking.now.dir.now) asking.now.who.now) base.now) ∷ [])
+        (reply.Ended ending.Done (hidden (view_in (D.rows asking.now.dir.now) asking.now.who.now) base.now) ∷ [])
         out.old.items out.new.items) }
     ensures kept { Extends out.old.items out.new.items }
 {

@@ -5,6 +5,7 @@ ghost use Rattle.std.specs.List.{list_any};
 ghost use Rattle.dir_tree.specs.tree.Numbered.{IsNumberedTree, find_name};
 ghost use Rattle.ldap_msg.specs.ber_layout.Spellings.{Extends};
 ghost use Rattle.ldap_msg.specs.declared.kinds.Reply.TheVariants as reply;
+ghost use Rattle.ldap_msg.specs.declared.operations.Ending.TheVariants as ending;
 ghost use Rattle.page_core.specs.read_model.Selecting.{is_shown};
 ghost use Rattle.page_core.specs.read_model.Choosing.{is_chosen};
 ghost use Rattle.page_core.specs.read_model.SearchReplies.{nothing_found};
@@ -23,7 +24,7 @@ use acdf_filters::aci_item::Permission;
 use dir_tree::dn_names::Dn;
 use dir_tree::{EntryNo, NoMemory};
 use directory::{Asking, Dir, Target, no_such_object, result_of};
-use ldap_msg::{LdapResult, Reply, ResultCode, SearchRequest, put_reply};
+use ldap_msg::{Ending, LdapResult, Reply, ResultCode, SearchRequest, put_reply};
 use page_core::read_model::filter_match::Prepared;
 use std::alloc::{AllocError, Global};
 
@@ -76,10 +77,10 @@ pub(crate) fn put_one(id: u32, reply: &Reply, out: &mut Vec<u8>) -> Result<(), N
 
 /// Appends how the search ended. After the error, as above, `out` is as before.
 pub(crate) fn put_done(id: u32, ended: LdapResult, out: &mut Vec<u8>) -> Result<(), NoMemory>
-    ensures ok { OnOk result (Puts id (reply.Done ended ∷ []) out.old.items out.new.items) }
+    ensures ok { OnOk result (Puts id (reply.Ended ending.Done ended ∷ []) out.old.items out.new.items) }
     ensures kept { Extends out.old.items out.new.items }
 {
-    put_one(id, &Reply::Done(ended), out)
+    put_one(id, &Reply::Ended(Ending::Done, ended), out)
 }
 
 /// Whether the entry is selected, of those in the scope.

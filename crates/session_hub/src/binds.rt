@@ -3,6 +3,7 @@
 ghost use Rattle.std.specs.Prelude.{◌≡◌, ◌≤◌, ◌+◌, ℕ, Bool, List, [], ◌∷◌, vec_len, vec_capacity, IsOk, IfOk, OnOk, OnErr, Some};
 ghost use Rattle.dir_tree.specs.tree.Numbered.{entries_of};
 ghost use Rattle.session_model.specs.ldap_msg.declared.kinds.Reply.TheVariants as reply;
+ghost use Rattle.session_model.specs.ldap_msg.declared.operations.Ending.TheVariants as ending;
 ghost use Rattle.op_read.specs.read_model.Views.{result_of as result_with};
 ghost use Rattle.op_read.specs.Short.{Puts};
 ghost use Rattle.session_hub.specs.Answering.{bound, answer_read};
@@ -15,7 +16,7 @@ use crate::simple::SimpleBind;
 use op_bind::{Bound, bind, bind_with_password};
 use op_read::acdf_filters::Requester;
 use op_read::directory::Dir;
-use session_model::ldap_msg::{BindRequest, Reply, put_reply};
+use session_model::ldap_msg::{BindRequest, Ending, Reply, put_reply};
 use std::alloc::{AllocError, Global};
 
 /// Appends the reply to a bind, and the requester is whom it made. After `AllocError` the requester is who it was.
@@ -27,14 +28,15 @@ fn put_bound(
     out: &mut Vec<u8>,
 ) -> Result<(), AllocError>
     ensures ok { OnOk result (Puts id
-        (reply.Bind (result_with bound.code) ∷ [])
+        (reply.Ended ending.Bind (result_with bound.code) ∷ [])
         out.old.items out.new.items) }
     ensures asked { OnOk result (who.new ≡ bound.who) }
     ensures err { OnErr result (out.new.items ≡ out.old.items) }
     ensures kept { OnErr result (who.new ≡ who.old) }
     ensures succeeds { id ≤ 2147483647 → vec_len out.old + 17 ≤ vec_capacity out.old → IsOk result }
 {
-    put_reply(out, id, &Reply::Bind(result_of(alloc, bound.code)))?;
+    let ended = result_of(alloc, bound.code);
+    put_reply(out, id, &Reply::Ended(Ending::Bind, ended))?;
     *who = bound.who;
     Ok(())
 }

@@ -9,6 +9,7 @@ use Rattle.dir_tree.specs.dn_names.parsing.NameText.{read_name}
 use Rattle.ldap_msg.specs.declared.operations.ResultCode.TheVariants as code
 use Rattle.ldap_msg.specs.declared.kinds.SearchRequest.{SearchRequest}
 use Rattle.ldap_msg.specs.declared.kinds.Reply.TheVariants as reply
+use Rattle.ldap_msg.specs.declared.operations.Ending.TheVariants as ending
 use Rattle.page_core.specs.read_model.Views.{View, no_such_object}
 use Rattle.page_core.specs.read_model.RootEntry.{root_replies}
 use Rattle.page_core.specs.read_model.SearchReplies.{replies_at, search_replies}
@@ -32,7 +33,7 @@ size-some view request subentries base size after some = rw (ne_eqb size 0 some)
 pub none-done : (view all : View) (base : RdnSequence) → is_done view all base ≡ true → empty_page ≡ page_of_none view all base
 none-done view all base e = rw e refl
 
-pub none-fails : (view all : View) (base : RdnSequence) → is_done view all base ≡ false → unpaged (reply.Done (no_such_object view base) ∷ []) ≡ page_of_none view all base
+pub none-fails : (view all : View) (base : RdnSequence) → is_done view all base ≡ false → unpaged (reply.Ended ending.Done (no_such_object view base) ∷ []) ≡ page_of_none view all base
 none-fails view all base e = rw e refl
 
 -- ---- the base

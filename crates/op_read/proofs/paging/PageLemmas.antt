@@ -11,6 +11,7 @@ use Rattle.ldap_msg.specs.declared.operations.ResultCode.TheVariants as code
 use Rattle.ldap_msg.specs.declared.kinds.SearchRequest.{SearchRequest}
 use Rattle.ldap_msg.specs.declared.kinds.Reply.{Reply}
 use Rattle.ldap_msg.specs.declared.kinds.Reply.TheVariants as reply
+use Rattle.ldap_msg.specs.declared.operations.Ending.TheVariants as ending
 use Rattle.page_core.specs.read_model.Views.{View, Row, has_name, discloses, hidden, no_such_object, result_of}
 use Rattle.page_core.specs.read_model.Selecting.{selected, is_selected}
 use Rattle.page_core.specs.read_model.Choosing.{sent_entry}
@@ -38,7 +39,7 @@ whole-filled : (view : View) (request : SearchRequest) (base : RdnSequence) (all
 unfolding found_replies
 whole-filled view request base [] h = absurd cc
 whole-filled view request base (first ∷ rest) h =
-    any-last is_success (map (sent_entry request.selection request.kinds_only) (first ∷ rest)) (reply.Done (result_of code.Success)) refl
+    any-last is_success (map (sent_entry request.selection request.kinds_only) (first ∷ rest)) (reply.Ended ending.Done (result_of code.Success)) refl
 
 -- the whole search of a base that is an entry's name
 whole-at : (view : View) (request : SearchRequest) (subentries : Option Bool) (base : RdnSequence) → list_any (has_name base) view ≡ true
@@ -57,7 +58,7 @@ none-there [] e = refl
 none-there (row ∷ rows) e = absurd cc
 
 whole-none : (view : View) (request : SearchRequest) (subentries : Option Bool) (base : RdnSequence) → list_any (has_name base) view ≡ true → is_filled (selected view request subentries base) ≡ false
-    → replies_at view (unlimited request) subentries base ≡ reply.Done (nothing_found view base) ∷ []
+    → replies_at view (unlimited request) subentries base ≡ reply.Ended ending.Done (nothing_found view base) ∷ []
 unfolding found_replies
 whole-none view request subentries base here none =
     whole-at view request subentries base here ∙ ap (found_replies view (unlimited request) base) (none-there (selected view request subentries base) none)
@@ -138,12 +139,12 @@ page-nothing view request subentries base size after here none =
     by (inl d) (inl f) = succeeds (rw d refl) (done-filled view request subentries base here f)
     by (inr d) (inl f) = succeeds (rw (d, f) refl) (done-filled view request subentries base here f)
     by (inl d) (inr f) =
-        let whole : replies_at view (unlimited request) subentries base ≡ reply.Done (result_of code.Success) ∷ [] = whole-none view request subentries base here f ∙ rw d refl in
+        let whole : replies_at view (unlimited request) subentries base ≡ reply.Ended ending.Done (result_of code.Success) ∷ [] = whole-none view request subentries base here f ∙ rw d refl in
         succeeds (rw d refl) (ap (list_any is_success) whole)
     by (inr d) (inr f) =
-        let whole : replies_at view (unlimited request) subentries base ≡ reply.Done (no_such_object view base) ∷ [] = whole-none view request subentries base here f ∙ rw d refl in
-        let is : page_of_none view all base ≡ unpaged (reply.Done (no_such_object view base) ∷ []) = rw (d, f) refl in
-        is ∙ sym (fails (replies_at view (unlimited request) subentries base) (reply.Done (no_such_object view base) ∷ []) whole refl)
+        let whole : replies_at view (unlimited request) subentries base ≡ reply.Ended ending.Done (no_such_object view base) ∷ [] = whole-none view request subentries base here f ∙ rw d refl in
+        let is : page_of_none view all base ≡ unpaged (reply.Ended ending.Done (no_such_object view base) ∷ []) = rw (d, f) refl in
+        is ∙ sym (fails (replies_at view (unlimited request) subentries base) (reply.Ended ending.Done (no_such_object view base) ∷ []) whole refl)
       where
         fails : (replies other : List Reply) → replies ≡ other → list_any is_success other ≡ false → (if list_any is_success replies then page_of_rows request size (filter (is_after after) all) else unpaged replies) ≡ unpaged other
         fails replies other is none = rw (is, none) refl
@@ -176,7 +177,7 @@ page-ended at id view request subentries base after size (TooMany last) before m
 
 -- ---- a base that is no entry's name
 
-hidden-fails : (view : View) (base : RdnSequence) → is_success (reply.Done (hidden view base)) ≡ false
+hidden-fails : (view : View) (base : RdnSequence) → is_success (reply.Ended ending.Done (hidden view base)) ≡ false
 unfolding hidden
 hidden-fails view base = elim (cases_Bool (discloses view base)) [
   | inl e ↦ rw e refl
@@ -184,6 +185,6 @@ hidden-fails view base = elim (cases_Bool (discloses view base)) [
 ]
 
 pub page-none : (view : View) (request : SearchRequest) (subentries : Option Bool) (base : RdnSequence) (size : ℕ) (after : RdnSequence) → list_any (has_name base) view ≡ false
-    → unpaged (reply.Done (hidden view base) ∷ []) ≡ page_at view request subentries base size after
+    → unpaged (reply.Ended ending.Done (hidden view base) ∷ []) ≡ page_at view request subentries base size after
 unfolding replies_at
 page-none view request subentries base size after none = rw (none, hidden-fails view base) refl

@@ -10,6 +10,7 @@ use Rattle.ldap_msg.specs.declared.kinds.SearchRequest.{SearchRequest}
 use Rattle.ldap_msg.specs.Search.{is_base}
 use Rattle.ldap_msg.specs.declared.kinds.Reply.{Reply}
 use Rattle.ldap_msg.specs.declared.kinds.Reply.TheVariants as reply
+use Rattle.ldap_msg.specs.declared.operations.Ending.TheVariants as ending
 use Rattle.page_core.specs.read_model.Views.{View, result_of}
 use Rattle.page_core.specs.read_model.SearchReplies.{replies_at, replies_by, search_replies}
 use Rattle.page_core.specs.read_model.RootEntry.{root_replies, finds_root, root_entry}
@@ -18,11 +19,11 @@ use Rattle.op_read.proofs.sending.PutsLemmas.{puts-append, puts-same}
 
 -- ---- searches
 
-pub root-elsewhere : (view : View) (request : SearchRequest) (subentries : Option Bool) → is_base request.scope ≡ false → reply.Done (result_of code.NoSuchObject) ∷ [] ≡ root_replies view request subentries
+pub root-elsewhere : (view : View) (request : SearchRequest) (subentries : Option Bool) → is_base request.scope ≡ false → reply.Ended ending.Done (result_of code.NoSuchObject) ∷ [] ≡ root_replies view request subentries
 unfolding root_replies
 root-elsewhere view request subentries h = rw h refl
 
-pub root-here : (view : View) (request : SearchRequest) (subentries : Option Bool) → is_base request.scope ≡ true → (if finds_root request subentries then root_entry view request ∷ [] else []) ++ reply.Done (result_of code.Success) ∷ [] ≡ root_replies view request subentries
+pub root-here : (view : View) (request : SearchRequest) (subentries : Option Bool) → is_base request.scope ≡ true → (if finds_root request subentries then root_entry view request ∷ [] else []) ++ reply.Ended ending.Done (result_of code.Success) ∷ [] ≡ root_replies view request subentries
 unfolding root_replies
 root-here view request subentries e = rw e refl
 
@@ -58,7 +59,7 @@ read-some view request subentries (Ok other) name is = ap (λ (base : RdnSequenc
     same e = cc
 
 read-none : (view : View) (request : SearchRequest) (subentries : Option Bool) (read : Result RdnSequence BadName) → None ≡ result_ok read
-    → reply.Done (result_of code.InvalidDnSyntax) ∷ [] ≡ replies_by view request subentries read
+    → reply.Ended ending.Done (result_of code.InvalidDnSyntax) ∷ [] ≡ replies_by view request subentries read
 read-none view request subentries (Err bad) is = refl
 read-none view request subentries (Ok other) is = absurd cc
 
@@ -68,6 +69,6 @@ unfolding search_replies
 known-some view request subentries name is = read-some view request subentries (read_name request.base) name is
 
 pub known-none : (view : View) (request : SearchRequest) (subentries : Option Bool) → None ≡ result_ok (read_name request.base)
-    → reply.Done (result_of code.InvalidDnSyntax) ∷ [] ≡ search_replies view request subentries
+    → reply.Ended ending.Done (result_of code.InvalidDnSyntax) ∷ [] ≡ search_replies view request subentries
 unfolding search_replies
 known-none view request subentries is = read-none view request subentries (read_name request.base) is

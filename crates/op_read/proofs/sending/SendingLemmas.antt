@@ -10,6 +10,7 @@ use Rattle.acdf_filters.specs.declared.asking.Requester.{Requester}
 use Rattle.ldap_msg.specs.declared.operations.ResultCode.{ResultCode}
 use Rattle.ldap_msg.specs.declared.operations.ResultCode.TheVariants as code
 use Rattle.ldap_msg.specs.declared.kinds.Reply.TheVariants as reply
+use Rattle.ldap_msg.specs.declared.operations.Ending.TheVariants as ending
 use Rattle.ldap_msg.specs.declared.kinds.SearchRequest.{SearchRequest}
 use Rattle.page_core.specs.read_model.Views.{Row, View, result_of}
 use Rattle.page_core.specs.read_model.Choosing.{sent_entry}
@@ -72,26 +73,26 @@ sends-within at limit id request row sent new out after bound some last room put
 
 -- the entries, and how the search ended
 found-filled : (view all : View) (request : SearchRequest) (base : RdnSequence) → is_filled all ≡ true
-    → sent_entries request (within_limit request.size all) ++ reply.Done (result_of (limit_code request.size all)) ∷ [] ≡ found_replies view request base all
+    → sent_entries request (within_limit request.size all) ++ reply.Ended ending.Done (result_of (limit_code request.size all)) ∷ [] ≡ found_replies view request base all
 unfolding found_replies
 found-filled view [] request base h = absurd cc
 found-filled view (first ∷ rest) request base h = refl
 
 found-ended : (id : ℕ) (view all : View) (request : SearchRequest) (base : RdnSequence) (ended : ResultCode) (before middle after : List ℕ)
-    → SendsAll request.size id request all before middle → limit_code request.size all ≡ ended → Puts id (reply.Done (result_of ended) ∷ []) middle after
+    → SendsAll request.size id request all before middle → limit_code request.size all ≡ ended → Puts id (reply.Ended ending.Done (result_of ended) ∷ []) middle after
     → Puts id (found_replies view request base all) before after
 found-ended id view all request base ended before middle after sent is put =
     puts-same id _ _ before after
-    (ap (λ (last : ResultCode). sent_entries request (within_limit request.size all) ++ reply.Done (result_of last) ∷ []) (sym is) ∙ found-filled view all request base sent.0)
-    (puts-append id (sent_entries request (within_limit request.size all)) (reply.Done (result_of ended) ∷ []) before middle after sent.1 put)
+    (ap (λ (last : ResultCode). sent_entries request (within_limit request.size all) ++ reply.Ended ending.Done (result_of last) ∷ []) (sym is) ∙ found-filled view all request base sent.0)
+    (puts-append id (sent_entries request (within_limit request.size all)) (reply.Ended ending.Done (result_of ended) ∷ []) before middle after sent.1 put)
 
 -- what was sent, and how the search ended
 pub found-replies : (at : Option EntryNo → View) (id : ℕ) (view all : View) (request : SearchRequest) (base : RdnSequence) (before middle after : List ℕ) (found : Found)
-    → IsSent at request.size id request all before middle found → Puts id (reply.Done (ended_by view base found) ∷ []) middle after
+    → IsSent at request.size id request all before middle found → Puts id (reply.Ended ending.Done (ended_by view base found) ∷ []) middle after
     → Puts id (found_replies view request base all) before after
 unfolding found_replies
 found-replies at id view all request base before middle after Nothing sent put =
     puts-same id _ _ before after (ap (λ (rows : View). found_replies view request base rows) (sym sent.0))
-    (subst (λ out. Puts id (reply.Done (ended_by view base Nothing) ∷ []) out after) sent.1 put)
+    (subst (λ out. Puts id (reply.Ended ending.Done (ended_by view base Nothing) ∷ []) out after) sent.1 put)
 found-replies at id view all request base before middle after FoundSome sent put = found-ended id view all request base code.Success before middle after sent.0 sent.1 put
 found-replies at id view all request base before middle after (TooMany last) sent put = found-ended id view all request base code.SizeLimitExceeded before middle after sent.0 sent.1 put

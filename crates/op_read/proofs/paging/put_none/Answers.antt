@@ -3,6 +3,7 @@ use Rattle.std.proofs.Common.{◌∙◌, ◌∷◌, [], sym, ap}
 use Rattle.std.proofs.lemmas.Result.{on_ok_weaker}
 use Rattle.ldap_msg.specs.declared.kinds.LdapResult.{LdapResult}
 use Rattle.ldap_msg.specs.declared.kinds.Reply.TheVariants as reply
+use Rattle.ldap_msg.specs.declared.operations.Ending.TheVariants as ending
 use Rattle.page_core.specs.read_model.Selecting.{selected}
 use Rattle.page_core.specs.Pages.{unpaged}
 use Rattle.directory.specs.Asking.{view_in}
@@ -31,7 +32,7 @@ returns-clause-ok g c =
     let all = selected view search.request.now search.subentries base in
     on_ok_weaker c.put_done.result
     (λ put.
-    unpaged-sent search.id c.args.out.now.items c.put_done.new.out.items (reply.Done c.in_ok-ended.ended ∷ []) (page_of_none view all base) put
-    (ap (λ (ended : LdapResult). unpaged (reply.Done ended ∷ [])) c.in_ok-ended.ensures.ok
+    unpaged-sent search.id c.args.out.now.items c.put_done.new.out.items (reply.Ended ending.Done c.in_ok-ended.ended ∷ []) (page_of_none view all base) put
+    (ap (λ (ended : LdapResult). unpaged (reply.Ended ending.Done ended ∷ [])) c.in_ok-ended.ensures.ok
     ∙ none-fails view all base (sym c.is_done.ensures.exact ∙ c.if-is_done.false)))
     c.put_done.ensures.ok

@@ -5,6 +5,7 @@ use Rattle.std.proofs.lemmas.Result.{on_ok_weaker}
 use Rattle.dir_tree.specs.dn_names.parsing.NameText.{read_name}
 use Rattle.ldap_msg.specs.declared.kinds.LdapResult.{LdapResult}
 use Rattle.ldap_msg.specs.declared.kinds.Reply.TheVariants as reply
+use Rattle.ldap_msg.specs.declared.operations.Ending.TheVariants as ending
 use Rattle.directory.specs.Asking.{view_in}
 use Rattle.op_read.proofs.sending.PutsLemmas.{puts-same}
 use Rattle.op_read.proofs.searching.AnsweringLemmas.{known-some, known-none}
@@ -25,6 +26,6 @@ returns-in-None-clause-ok g c =
     let asked = c.args.asked in
     on_ok_weaker c.put_done.result
     (puts-same asked.id _ _ c.args.out.now.items c.put_done.new.out.items
-    (ap (λ (ended : LdapResult). reply.Done ended ∷ []) c.result_of.ensures.exact
+    (ap (λ (ended : LdapResult). reply.Ended ending.Done ended ∷ []) c.result_of.ensures.exact
     ∙ known-none view asked.request.now asked.subentries (sym c.in-None.is ∙ c.in_ok-base.ensures.ok ∙ ap (λ octets. result_ok (read_name octets)) c.as_slice.ensures.exact)))
     c.put_done.ensures.ok

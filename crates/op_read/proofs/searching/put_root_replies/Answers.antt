@@ -5,6 +5,7 @@ use Rattle.std.proofs.lemmas.Result.{on_ok_weaker}
 use Rattle.ldap_msg.specs.declared.kinds.LdapResult.{LdapResult}
 use Rattle.ldap_msg.specs.declared.kinds.Reply.{Reply}
 use Rattle.ldap_msg.specs.declared.kinds.Reply.TheVariants as reply
+use Rattle.ldap_msg.specs.declared.operations.Ending.TheVariants as ending
 use Rattle.ldap_msg.specs.declared.operations.ResultCode.TheVariants as code
 use Rattle.page_core.specs.read_model.Views.{result_of}
 use Rattle.page_core.specs.read_model.RootEntry.{finds_root, root_entry, root_replies}
@@ -20,7 +21,7 @@ returns-then-not-is_base-clause-ok g c =
     on_ok_weaker c.put_done.result
     (λ put.
     puts-same c.args.asked.id _ _ c.args.out.now.items c.put_done.new.out.items
-    (ap (λ (ended : LdapResult). reply.Done ended ∷ []) c.result_of.ensures.exact ∙ root-elsewhere view c.args.asked.request.now c.args.asked.subentries (sym c.is_base.ensures ∙ c.if-not-is_base.true)) put)
+    (ap (λ (ended : LdapResult). reply.Ended ending.Done ended ∷ []) c.result_of.ensures.exact ∙ root-elsewhere view c.args.asked.request.now c.args.asked.subentries (sym c.is_base.ensures ∙ c.if-not-is_base.true)) put)
     c.put_done.ensures.ok
 
 -- the base alone
@@ -31,8 +32,8 @@ returns-clause-ok g c =
     let found : List Reply = if finds_root request c.args.asked.subentries then root_entry view request ∷ [] else [] in
     on_ok_weaker c.put_done-2.result
     (λ put.
-    replies-behind c.args.asked.id c.args.out.now.items c.put_root.new.out.items c.put_done-2.new.out.items found (reply.Done (result_of code.Success) ∷ []) (root_replies view request c.args.asked.subentries)
+    replies-behind c.args.asked.id c.args.out.now.items c.put_root.new.out.items c.put_done-2.new.out.items found (reply.Ended ending.Done (result_of code.Success) ∷ []) (root_replies view request c.args.asked.subentries)
     c.in_ok-put_root.ensures.ok
     (root-here view request c.args.asked.subentries (sym c.is_base.ensures ∙ c.if-not-is_base.false))
-    (puts-same c.args.asked.id _ _ c.put_root.new.out.items c.put_done-2.new.out.items (ap (λ (ended : LdapResult). reply.Done ended ∷ []) c.result_of-2.ensures.exact) put))
+    (puts-same c.args.asked.id _ _ c.put_root.new.out.items c.put_done-2.new.out.items (ap (λ (ended : LdapResult). reply.Ended ending.Done ended ∷ []) c.result_of-2.ensures.exact) put))
     c.put_done-2.ensures.ok

@@ -4,6 +4,7 @@ use Rattle.std.proofs.lemmas.Result.{on_ok_weaker}
 use Rattle.dir_tree.specs.Scope.{scoped}
 use Rattle.ldap_msg.specs.declared.kinds.LdapResult.{LdapResult}
 use Rattle.ldap_msg.specs.declared.kinds.Reply.TheVariants as reply
+use Rattle.ldap_msg.specs.declared.operations.Ending.TheVariants as ending
 use Rattle.page_core.specs.read_model.Views.{View}
 use Rattle.page_core.specs.read_model.Selecting.{selected, is_shown}
 use Rattle.directory.specs.Asking.{view_in}
@@ -32,5 +33,5 @@ returns-clause-ok g c =
     (λ put.
     found-replies at search.id (view_in rows who) (selected (view_in rows who) request search.subentries c.args.base.now) request c.args.base.now c.args.out.now.items middle c.put_done.new.out.items found
     sent
-    (puts-same search.id _ _ middle c.put_done.new.out.items (ap (λ (ended : LdapResult). reply.Done ended ∷ []) c.in_ok-ended.ensures.ok) put))
+    (puts-same search.id _ _ middle c.put_done.new.out.items (ap (λ (ended : LdapResult). reply.Ended ending.Done ended ∷ []) c.in_ok-ended.ensures.ok) put))
     c.put_done.ensures.ok
