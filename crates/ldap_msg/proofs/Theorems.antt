@@ -9,6 +9,10 @@ pub use Rattle.ldap_msg.proofs.laws.WholeLemmas.{whole_append, rest_append, whol
 -- a request that is read is the one that the octets say, and the one that they say is read; so is a reply
 pub use Rattle.ldap_msg.proofs.reading.MessageLemmas.{message_sound, message_complete}
 pub use Rattle.ldap_msg.proofs.replies.AnswerLemmas.{reply_is_sound, reply_is_complete}
+-- the code of a code's number is the code, and the number of a number's code is the number; a code's number is below 128
+pub use Rattle.ldap_msg.proofs.operations.CodeLemmas.{code_back, number_back, code_bound}
+-- the content of a whole message stands behind its header
+pub use Rattle.ldap_msg.proofs.framing.HeadLemmas.{content_by}
 -- what is written says itself, and no reply is empty
 pub use Rattle.ldap_msg.proofs.laws.WrittenLemmas.{request_says, answer_says, reply_some}
 -- a frame is the one that the stream has; a whole message is an outer element, and one by itself

@@ -1,5 +1,5 @@
 -- An attribute's type and values, and a change of one (RFC 4511 4.1.7, 4.6).
-use Rattle.std.specs.Prelude.{ℕ, zero, suc, List}
+use Rattle.std.specs.Prelude.{ℕ, zero, suc}
 use Rattle.std.proofs.Common.{zero-le, suc-le-suc}
 use Rattle.ber_layout.specs.Layouts.{Layout, Value}
 use Rattle.ber_layout.specs.Layouts.Layout.{AnyOctets, Number, End, Then, Each}

@@ -1,5 +1,5 @@
 -- Bind requests (RFC 4511 4.2).
-use Rattle.std.specs.Prelude.{◌≡◌, ◌≢◌, ℕ, List, [], Option, Some, ◌==◌, if◌then◌else◌}
+use Rattle.std.specs.Prelude.{◌≢◌, ℕ, List, [], Option, Some, ◌==◌, if◌then◌else◌}
 use Rattle.ber_elements.specs.write.Element.{IsTag}
 use Rattle.ber_layout.specs.element.Pieces.{◌>>=◌}
 use Rattle.ber_layout.specs.Layouts.{Layout, Value, reads}

@@ -1,5 +1,5 @@
 -- Controls (RFC 4511 4.1.11).
-use Rattle.std.specs.Prelude.{ℕ, Bool, List, [], ◌∷◌, map, Option, Some, None}
+use Rattle.std.specs.Prelude.{List, [], ◌∷◌, map, Option, Some, None}
 use Rattle.ber_layout.specs.Layouts.{Layout, Value}
 use Rattle.ber_layout.specs.Layouts.Layout.{AnyOctets, End, Then, Maybe, Marked, Each}
 use Rattle.ldap_msg.specs.declared.kinds.Control.{Control}

@@ -1,5 +1,5 @@
 -- The other requests (RFC 4511 4.3 to 4.12): each has a layout, its parts, and the request of such parts.
-use Rattle.std.specs.Prelude.{ℕ, Bool, List, map, Option}
+use Rattle.std.specs.Prelude.{map}
 use Rattle.ber_layout.specs.Layouts.{Layout, Value}
 use Rattle.ber_layout.specs.Layouts.Layout.{AnyOctets, Number, Flag, End, Further, FurtherBut, Then, Maybe, Each}
 use Rattle.ldap_msg.specs.Attributes.{attribute_layout, attribute_parts, attribute_from, change_layout, change_parts, change_from}

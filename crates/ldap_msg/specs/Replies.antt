@@ -5,12 +5,13 @@ use Rattle.ber_layout.specs.components.Components.{Follows, required_of}
 use Rattle.ber_layout.specs.Spellings.{element_octets}
 use Rattle.ber_layout.specs.Layouts.{Layout, Value, Says as SaysLayout, IsShort, reads, writes}
 use Rattle.ber_layout.specs.Layouts.Layout.{Number, FurtherBut, AnyElement, Then, Maybe}
-use Rattle.ldap_msg.specs.declared.kinds.LdapResult.{LdapResult}
 use Rattle.ldap_msg.specs.declared.kinds.Reply.{Reply}
 use Rattle.ldap_msg.specs.declared.kinds.Reply.TheVariants as reply
 use Rattle.ldap_msg.specs.declared.operations.Response.{Response}
 use Rattle.ldap_msg.specs.declared.operations.Response.TheVariants as response
+use Rattle.ldap_msg.specs.declared.operations.ResultCode.TheVariants as code
 use Rattle.ldap_msg.specs.operations.Operations.{response_tag, response_of}
+use Rattle.ldap_msg.specs.operations.ResultCodes.{code_from}
 use Rattle.ldap_msg.specs.Attributes.{attribute_from}
 use Rattle.ldap_msg.specs.Results.{result_layout, result_parts, result_from, entry_layout, entry_parts, answered_layout, answered_parts}
 use Rattle.ldap_msg.specs.Controls.{controls_layout}
@@ -23,14 +24,8 @@ reply_layout = Then 0x02 (Number 0 2147483647) (AnyElement (Maybe 0xa0 controls_
 
 -- the response of a reply
 abbrev pub response_for : Reply → Response
-response_for (reply.Bind result) = response.Bind
 response_for (reply.Entry name attributes) = response.Entry
-response_for (reply.Done result) = response.Done
-response_for (reply.Modify result) = response.Modify
-response_for (reply.Add result) = response.Add
-response_for (reply.Delete result) = response.Delete
-response_for (reply.Rename result) = response.Rename
-response_for (reply.Compare result) = response.Compare
+response_for (reply.Ended ending result) = response.Ended ending
 response_for (reply.Extended result name value) = response.Extended
 
 -- the reply of an entry's parts
@@ -39,18 +34,12 @@ entry_from (name, ((attributes, _), _)) = reply.Entry name (map attribute_from a
 
 -- the reply of the parts of what an extended operation answers
 abbrev pub answered_from : Value answered_layout → Reply
-answered_from (code, (matched, (_, (name, (value, _))))) = reply.Extended (record { code = code; matched = matched }) name value
+answered_from (number, (matched, (_, (name, (value, _))))) = reply.Extended (record { code = code_from number; matched = matched }) name value
 
 -- the content of its element says the reply
 abbrev pub SaysReply : Reply → List ℕ → Type 0
-SaysReply (reply.Bind result) content = SaysLayout result_layout (result_parts result) content
 SaysReply (reply.Entry name attributes) content = SaysBy entry_layout entry_from (reply.Entry name attributes) content
-SaysReply (reply.Done result) content = SaysLayout result_layout (result_parts result) content
-SaysReply (reply.Modify result) content = SaysLayout result_layout (result_parts result) content
-SaysReply (reply.Add result) content = SaysLayout result_layout (result_parts result) content
-SaysReply (reply.Delete result) content = SaysLayout result_layout (result_parts result) content
-SaysReply (reply.Rename result) content = SaysLayout result_layout (result_parts result) content
-SaysReply (reply.Compare result) content = SaysLayout result_layout (result_parts result) content
+SaysReply (reply.Ended ending result) content = SaysLayout result_layout (result_parts result) content
 SaysReply (reply.Extended result name value) content = SaysLayout answered_layout (answered_parts result name value) content
 
 -- the content of its element says the reply with this messageID; its parts are those that a request's message has
@@ -67,20 +56,10 @@ Replies id answer bytes = Follows 0x30 (SaysIn (id, answer)) (λ rest. rest ≡ 
 
 -- ---- computed
 
--- what is made of the result that a content says
-abbrev pub ended_in : (LdapResult → Reply) → List ℕ → Option Reply
-ended_in make content = reads result_layout content >>= λ parts. Some (make (result_from parts))
-
 -- the reply of a response that a content says
 abbrev pub reply_in : Response → List ℕ → Option Reply
-reply_in response.Bind content = ended_in reply.Bind content
 reply_in response.Entry content = reads entry_layout content >>= λ parts. Some (entry_from parts)
-reply_in response.Done content = ended_in reply.Done content
-reply_in response.Modify content = ended_in reply.Modify content
-reply_in response.Add content = ended_in reply.Add content
-reply_in response.Delete content = ended_in reply.Delete content
-reply_in response.Rename content = ended_in reply.Rename content
-reply_in response.Compare content = ended_in reply.Compare content
+reply_in (response.Ended ending) content = reads result_layout content >>= λ parts. Some (reply.Ended ending (result_from parts))
 reply_in response.Extended content = reads answered_layout content >>= λ parts. Some (answered_from parts)
 
 -- the reply that a tag and a content say
@@ -101,14 +80,8 @@ reply_of bytes = required_of 0x30 answer_in bytes >>= λ found. if length found.
 
 -- the written content of a reply
 abbrev pub reply_content : Reply → List ℕ
-reply_content (reply.Bind result) = writes result_layout (result_parts result)
 reply_content (reply.Entry name attributes) = writes entry_layout (entry_parts name attributes)
-reply_content (reply.Done result) = writes result_layout (result_parts result)
-reply_content (reply.Modify result) = writes result_layout (result_parts result)
-reply_content (reply.Add result) = writes result_layout (result_parts result)
-reply_content (reply.Delete result) = writes result_layout (result_parts result)
-reply_content (reply.Rename result) = writes result_layout (result_parts result)
-reply_content (reply.Compare result) = writes result_layout (result_parts result)
+reply_content (reply.Ended ending result) = writes result_layout (result_parts result)
 reply_content (reply.Extended result name value) = writes answered_layout (answered_parts result name value)
 
 -- the parts of a reply's message
@@ -133,4 +106,4 @@ notice_name = 49 ∷ 46 ∷ 51 ∷ 46 ∷ 54 ∷ 46 ∷ 49 ∷ 46 ∷ 52 ∷ 46 
 
 -- the notice of disconnection, with the code protocolError (RFC 4511 4.4.1)
 unfoldable pub notice_octets : List ℕ
-notice_octets = reply_octets 0 (reply.Extended (record { code = 2; matched = [] }) (Some notice_name) None)
+notice_octets = reply_octets 0 (reply.Extended (record { code = code.ProtocolError; matched = [] }) (Some notice_name) None)

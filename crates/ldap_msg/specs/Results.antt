@@ -4,6 +4,7 @@ use Rattle.ber_layout.specs.Layouts.{Layout, Value}
 use Rattle.ber_layout.specs.Layouts.Layout.{AnyOctets, Ignored, Number, End, Then, Maybe, Each}
 use Rattle.ldap_msg.specs.declared.kinds.KindValues.{KindValues}
 use Rattle.ldap_msg.specs.declared.kinds.LdapResult.{LdapResult}
+use Rattle.ldap_msg.specs.operations.ResultCodes.{code_number, code_from}
 use Rattle.ldap_msg.specs.Attributes.{attribute_layout, attribute_parts}
 
 -- LDAPResult ::= SEQUENCE { resultCode ENUMERATED, matchedDN LDAPDN, diagnosticMessage LDAPString, ... }, with what
@@ -15,10 +16,10 @@ abbrev pub result_layout : Layout
 result_layout = result_before End
 
 abbrev pub result_parts : LdapResult → Value result_layout
-result_parts result = (result.code, (result.matched, (tt, tt)))
+result_parts result = (code_number result.code, (result.matched, (tt, tt)))
 
 abbrev pub result_from : Value result_layout → LdapResult
-result_from (code, (matched, _)) = record { code = code; matched = matched }
+result_from (code, (matched, _)) = record { code = code_from code; matched = matched }
 
 -- SearchResultEntry ::= [APPLICATION 4] SEQUENCE { objectName LDAPDN, attributes PartialAttributeList }
 abbrev pub entry_layout : Layout
@@ -37,4 +38,4 @@ abbrev pub answered_layout : Layout
 answered_layout = result_before names_layout
 
 abbrev pub answered_parts : LdapResult → Option (List ℕ) → Option (List ℕ) → Value answered_layout
-answered_parts result name value = (result.code, (result.matched, (tt, (name, (value, tt)))))
+answered_parts result name value = (code_number result.code, (result.matched, (tt, (name, (value, tt)))))

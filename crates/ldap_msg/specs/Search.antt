@@ -61,9 +61,10 @@ search_from parts = filter_of (filter_part parts) >>= λ filter. Some (search_wi
 abbrev pub search_of : List ℕ → Option SearchRequest
 search_of content = reads search_layout content >>= search_from
 
--- the parts of a search
+-- the parts of its limits, its filter and its selection
 abbrev pub limits_parts : SearchRequest → Value limits_layout
 limits_parts search = (search.size, (tt, (search.kinds_only, (filter_octets search.filter, ((search.selection, tt), tt)))))
 
+-- the parts of a search
 abbrev pub search_parts : SearchRequest → Value search_layout
 search_parts search = (search.base, (scope_number search.scope, (tt, limits_parts search)))

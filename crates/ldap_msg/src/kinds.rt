@@ -2,6 +2,7 @@
 
 ghost use Rattle.std.specs.Prelude.{◌≤◌};
 
+use crate::operations::{Ending, ResultCode};
 use ldap_filter::Filter;
 use plain_values::{Octets, OneOrMany};
 use std::alloc::AllocError;
@@ -17,6 +18,17 @@ pub const MAX_CONTENT: usize = 1_048_576;
 pub enum Frame {
     /// A whole message, of so many octets.
     Whole(usize),
+    /// Less than a whole message, or nothing.
+    More,
+    /// No message, however the stream goes on.
+    Bad,
+}
+
+/// What stands at the front of a stream, and where the content of a whole message begins (RFC 4511 5).
+#[derive(Clone, Copy, Debug, PartialEq, Eq)]
+pub enum Framed {
+    /// A whole message of `length` octets, the first `head` of which are its header.
+    Whole { head: usize, length: usize },
     /// Less than a whole message, or nothing.
     More,
     /// No message, however the stream goes on.
@@ -137,6 +149,19 @@ pub struct SearchRequest {
     pub selection: OneOrMany<Octets>,
 }
 
+/// A change of one entry.
+#[derive(Debug, Drop)]
+pub enum Update {
+    /// To change an entry's attributes (RFC 4511 4.6).
+    Modify(ModifyRequest),
+    /// To add an entry (RFC 4511 4.7).
+    Add(AddRequest),
+    /// To delete an entry (RFC 4511 4.8).
+    Delete(DeleteRequest),
+    /// To give an entry another name (RFC 4511 4.9).
+    Rename(RenameRequest),
+}
+
 /// What a client asks for.
 #[derive(Drop)]
 pub enum Request {
@@ -146,14 +171,8 @@ pub enum Request {
     Unbind,
     /// To search entries (RFC 4511 4.5.1).
     Search(SearchRequest),
-    /// To change an entry's attributes (RFC 4511 4.6).
-    Modify(ModifyRequest),
-    /// To add an entry (RFC 4511 4.7).
-    Add(AddRequest),
-    /// To delete an entry (RFC 4511 4.8).
-    Delete(DeleteRequest),
-    /// To give an entry another name (RFC 4511 4.9).
-    Rename(RenameRequest),
+    /// To change an entry (RFC 4511 4.6 to 4.9).
+    Update(Update),
     /// To compare a value with those of an entry (RFC 4511 4.10).
     Compare(CompareRequest),
     /// To abandon the operation with this message's number (RFC 4511 4.11).
@@ -182,29 +201,17 @@ pub struct Message {
 /// How an operation ended (RFC 4511 4.1.9). The diagnostic message is always empty.
 #[derive(Debug, Drop)]
 pub struct LdapResult {
-    pub code: u8,
+    pub code: ResultCode,
     pub matched: Octets,
 }
 
 /// What the server answers.
 #[derive(Debug, Drop)]
 pub enum Reply {
-    /// To a bind (RFC 4511 4.2.2).
-    Bind(LdapResult),
     /// One entry of a search, its name and its attributes (RFC 4511 4.5.2).
     Entry(Octets, OneOrMany<KindValues>),
-    /// At the end of a search (RFC 4511 4.5.2).
-    Done(LdapResult),
-    /// To a modify (RFC 4511 4.6).
-    Modify(LdapResult),
-    /// To an add (RFC 4511 4.7).
-    Add(LdapResult),
-    /// To a delete (RFC 4511 4.8).
-    Delete(LdapResult),
-    /// To a rename (RFC 4511 4.9).
-    Rename(LdapResult),
-    /// To a compare (RFC 4511 4.10).
-    Compare(LdapResult),
+    /// How an operation ended (RFC 4511 4.2.2 and 4.5.2 to 4.10).
+    Ended(Ending, LdapResult),
     /// To an extended operation, with its name and its value (RFC 4511 4.12).
     Extended(LdapResult, Option<Octets>, Option<Octets>),
 }

@@ -4,6 +4,8 @@ ghost use Rattle.std.specs.Prelude.{◌≡◌, ℕ, ◌<◌, true, false, List, 
 ghost use Rattle.ldap_msg.specs.declared.kinds.Frame.TheVariants.{Whole, More, Bad};
 ghost use Rattle.ldap_msg.specs.declared.kinds.Message.{Message};
 ghost use Rattle.ldap_msg.specs.declared.kinds.Reply.{Reply};
+ghost use Rattle.ldap_msg.specs.declared.operations.ResultCode.{ResultCode};
+ghost use Rattle.ldap_msg.specs.operations.ResultCodes.{code_number, code_from};
 ghost use Rattle.ldap_msg.specs.Streams.{IsWhole, IsBroken, frame_at, whole, rest_of, is_broken};
 ghost use Rattle.ldap_msg.specs.reading.Messages.{Says, message_of, request_octets};
 ghost use Rattle.ldap_msg.specs.Replies.{Replies, reply_of, reply_octets};
@@ -65,10 +67,17 @@ pub fn replies_are_read()
     ensures only { (id : ℕ) (reply : Reply) (bytes : List ℕ) → Replies id reply bytes → reply_of bytes ≡ Some (id, reply) }
 {}
 
-/// A written reply is read again.
+/// A written reply is read again, where its messageID is at most 2147483647. Each that `put_reply` appended is short.
 pub fn replies_are_read_again()
     ensures says { (id : ℕ) (reply : Reply) → IsWritableReply id reply → Replies id reply (reply_octets id reply) }
     ensures exact { (id : ℕ) (reply : Reply) → IsWritableReply id reply → reply_of (reply_octets id reply) ≡ Some (id, reply) }
+{}
+
+/// The code of a code's number is the code, and every number below 128 is that of a code.
+pub fn codes_are_numbered()
+    ensures code { (code : ResultCode) → code_from (code_number code) ≡ code }
+    ensures number { (number : ℕ) → number < 128 → code_number (code_from number) ≡ number }
+    ensures range { (code : ResultCode) → code_number code < 128 }
 {}
 
 /// No reply is empty.

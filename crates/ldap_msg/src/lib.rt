@@ -9,6 +9,7 @@ mod framing;
 mod kinds;
 pub mod laws;
 mod operations;
+mod other_codes;
 mod plain;
 mod reading;
 mod replies;
@@ -21,16 +22,17 @@ mod writing;
 pub use ber_elements;
 pub use ber_layout;
 pub use ber_layout::ReadFault;
-pub use framing::frame;
+pub use framing::{frame, framed};
 pub use kinds::{
-    AddRequest, Auth, BindRequest, Change, CompareRequest, Control, DeleteRequest, Frame,
+    AddRequest, Auth, BindRequest, Change, CompareRequest, Control, DeleteRequest, Frame, Framed,
     KindValues, LdapResult, MAX_CONTENT, Message, ModifyOperation, ModifyRequest, NoMemory,
-    OtherOperation, RenameRequest, Reply, Request, SearchRequest, SearchScope,
+    OtherOperation, RenameRequest, Reply, Request, SearchRequest, SearchScope, Update,
 };
 pub use ldap_filter;
 pub use ldap_filter::{Filter, Node};
-pub use operations::{Operation, Response, ResultCode};
+pub use operations::{Ending, Operation, Response, ResultCode};
+pub use other_codes::OtherCode;
 pub use plain_values;
-pub use reading::read_request;
+pub use reading::{read_content, read_request};
 pub use replies::{put_notice, put_reply, read_reply};
 pub use writing::put_request;

@@ -2,8 +2,10 @@
 
 ghost use Rattle.std.specs.Prelude.{◌≡◌, ◌<◌};
 ghost use Rattle.ber_elements.specs.write.Element.{IsTag};
-ghost use Rattle.ldap_msg.specs.operations.Operations.{request_tag, operation_of, response_tag, response_of};
-ghost use Rattle.ldap_msg.specs.operations.ResultCodes.{code_number};
+ghost use Rattle.ldap_msg.specs.operations.Operations.{request_tag, operation_of, ending_tag, ending_of, response_tag, response_of};
+ghost use Rattle.ldap_msg.specs.operations.ResultCodes.{code_number, code_from};
+
+use crate::other_codes::OtherCode;
 
 /// What a client may ask for.
 #[derive(Clone, Copy, Debug)]
@@ -60,17 +62,61 @@ impl Operation {
     }
 }
 
-/// What a server answers with.
+/// The responses whose content is a result alone.
 #[derive(Clone, Copy, Debug)]
-pub enum Response {
+pub enum Ending {
     Bind,
-    Entry,
+    /// Of a search.
     Done,
     Modify,
     Add,
     Delete,
     Rename,
     Compare,
+}
+
+impl Ending {
+    /// The tag of the response.
+    pub fn tag(self) -> u8
+        ensures exact { result ≡ ending_tag self }
+        ensures tag { IsTag result }
+    {
+        match self {
+            Ending::Bind => 0x61,
+            Ending::Done => 0x65,
+            Ending::Modify => 0x67,
+            Ending::Add => 0x69,
+            Ending::Delete => 0x6b,
+            Ending::Rename => 0x6d,
+            Ending::Compare => 0x6f,
+        }
+    }
+
+    /// The response that has this tag, if its content is a result alone.
+    pub fn of(tag: u8) -> Option<Ending>
+        ensures { result ≡ ending_of tag }
+    {
+        match tag {
+            0x61 => Some(Ending::Bind),
+            0x65 => Some(Ending::Done),
+            0x67 => Some(Ending::Modify),
+            0x69 => Some(Ending::Add),
+            0x6b => Some(Ending::Delete),
+            0x6d => Some(Ending::Rename),
+            0x6f => Some(Ending::Compare),
+            _ => None,
+        }
+    }
+}
+
+/// What a server answers with.
+#[derive(Clone, Copy, Debug)]
+pub enum Response {
+    /// One entry of a search.
+    Entry,
+    /// How an operation ended.
+    Ended(Ending),
+    /// How an extended operation ended, and what it answers.
     Extended,
 }
 
@@ -81,14 +127,8 @@ impl Response {
         ensures tag { IsTag result }
     {
         match self {
-            Response::Bind => 0x61,
             Response::Entry => 0x64,
-            Response::Done => 0x65,
-            Response::Modify => 0x67,
-            Response::Add => 0x69,
-            Response::Delete => 0x6b,
-            Response::Rename => 0x6d,
-            Response::Compare => 0x6f,
+            Response::Ended(ending) => ending.tag(),
             Response::Extended => 0x78,
         }
     }
@@ -98,21 +138,14 @@ impl Response {
         ensures { result ≡ response_of tag }
     {
         match tag {
-            0x61 => Some(Response::Bind),
             0x64 => Some(Response::Entry),
-            0x65 => Some(Response::Done),
-            0x67 => Some(Response::Modify),
-            0x69 => Some(Response::Add),
-            0x6b => Some(Response::Delete),
-            0x6d => Some(Response::Rename),
-            0x6f => Some(Response::Compare),
             0x78 => Some(Response::Extended),
-            _ => None,
+            _ => Some(Response::Ended(Ending::of(tag)?)),
         }
     }
 }
 
-/// How an operation may end here.
+/// How an operation ended.
 #[derive(Clone, Copy, Debug)]
 pub enum ResultCode {
     Success,
@@ -140,6 +173,8 @@ pub enum ResultCode {
     NotAllowedOnRdn,
     EntryAlreadyExists,
     ObjectClassModsProhibited,
+    /// Another code.
+    Other(OtherCode),
 }
 
 impl ResultCode {
@@ -174,6 +209,43 @@ impl ResultCode {
             ResultCode::NotAllowedOnRdn => 67,
             ResultCode::EntryAlreadyExists => 68,
             ResultCode::ObjectClassModsProhibited => 69,
+            ResultCode::Other(other) => other.number,
+        }
+    }
+
+    /// The code of a number below 128.
+    pub fn numbered(number: u8) -> ResultCode
+        requires { number < 128 }
+        ensures exact { result ≡ code_from number }
+        ensures number { code_number result ≡ number }
+    {
+        match number {
+            0 => ResultCode::Success,
+            2 => ResultCode::ProtocolError,
+            4 => ResultCode::SizeLimitExceeded,
+            5 => ResultCode::CompareFalse,
+            6 => ResultCode::CompareTrue,
+            7 => ResultCode::AuthMethodNotSupported,
+            11 => ResultCode::AdminLimitExceeded,
+            12 => ResultCode::UnavailableCriticalExtension,
+            16 => ResultCode::NoSuchAttribute,
+            17 => ResultCode::UndefinedAttributeType,
+            18 => ResultCode::InappropriateMatching,
+            19 => ResultCode::ConstraintViolation,
+            20 => ResultCode::AttributeOrValueExists,
+            21 => ResultCode::InvalidAttributeSyntax,
+            32 => ResultCode::NoSuchObject,
+            34 => ResultCode::InvalidDnSyntax,
+            49 => ResultCode::InvalidCredentials,
+            50 => ResultCode::InsufficientAccessRights,
+            53 => ResultCode::UnwillingToPerform,
+            64 => ResultCode::NamingViolation,
+            65 => ResultCode::ObjectClassViolation,
+            66 => ResultCode::NotAllowedOnNonLeaf,
+            67 => ResultCode::NotAllowedOnRdn,
+            68 => ResultCode::EntryAlreadyExists,
+            69 => ResultCode::ObjectClassModsProhibited,
+            _ => ResultCode::Other(OtherCode { number }),
         }
     }
 }

@@ -2,59 +2,44 @@
 
 ghost use Rattle.std.specs.Prelude.{◌≡◌, ◌<◌, ◌≤◌, ◌+◌, ◌++◌, [], vec_len, vec_capacity, IfSome, IsSome, IsOk, OnOk, OnErr};
 ghost use Rattle.ber_layout.specs.Layouts.{writes};
-ghost use Rattle.ldap_msg.specs.Plain.{IsPlain, IsPlainResult};
+ghost use Rattle.ldap_msg.specs.Plain.{IsPlain};
+ghost use Rattle.ldap_msg.specs.operations.ResultCodes.{code_number};
 ghost use Rattle.ldap_msg.specs.Results.{result_layout};
 ghost use Rattle.ldap_msg.specs.Replies.{reply_content, reply_octets};
 
-use crate::kinds::{LdapResult, NoMemory, Reply};
+use crate::kinds::{NoMemory, Reply};
+use crate::operations::ResultCode;
 
-impl LdapResult {
-    /// The code, where it is below 128 and there is no matched name.
-    fn plain_code(&self) -> Option<u8>
-        ensures few { IfSome result (λ code. code < 128) }
-        ensures same { IfSome result (λ code. self.now.code ≡ code) }
-        ensures matched { IfSome result (λ code. self.now.matched ≡ []) }
-        ensures found { IsPlainResult self.now → IsSome result }
-    {
-        if self.code >= 128 {
-            return None;
-        }
-        match self.matched.as_slice() {
-            [] => Some(self.code),
-            _ => None,
-        }
-    }
-}
-
-/// The code of a reply that is a result with no matched name and a code below 128.
-pub(crate) fn plain_code(reply: &Reply) -> Option<u8>
-    ensures few { IfSome result (λ code. code < 128) }
-    ensures content { IfSome result (λ code. reply_content reply.now ≡ writes result_layout (code, ([], (tt, tt)))) }
+/// The code of a reply that is a result with no matched name.
+pub(crate) fn plain_code(reply: &Reply) -> Option<ResultCode>
+    ensures content { IfSome result (λ code. reply_content reply.now ≡ writes result_layout (code_number code, ([], (tt, tt)))) }
     ensures found { IsPlain reply.now → IsSome result }
 {
     match reply {
         Reply::Entry(_, _) | Reply::Extended(_, _, _) => None,
-        Reply::Bind(ended) => ended.plain_code(),
-        Reply::Done(ended) => ended.plain_code(),
-        Reply::Modify(ended) => ended.plain_code(),
-        Reply::Add(ended) => ended.plain_code(),
-        Reply::Delete(ended) => ended.plain_code(),
-        Reply::Rename(ended) => ended.plain_code(),
-        Reply::Compare(ended) => ended.plain_code(),
+        Reply::Ended(_, ended) => match ended.matched.as_slice() {
+            [] => Some(ended.code),
+            _ => None,
+        },
     }
 }
 
 /// Appends the message of such a reply: the messageID, and the response with the code, no matched name and no diagnostic
 /// message. The messageID has one octet to four. Where there is room for 17 octets this takes no memory.
-pub(crate) fn put_plain(out: &mut Vec<u8>, id: u32, reply: &Reply, code: u8) -> Result<(), NoMemory>
+pub(crate) fn put_plain(
+    out: &mut Vec<u8>,
+    id: u32,
+    reply: &Reply,
+    code: ResultCode,
+) -> Result<(), NoMemory>
     requires id { id ≤ 2147483647 }
-    requires few { code < 128 }
-    requires content { reply_content reply.now ≡ writes result_layout (code, ([], (tt, tt))) }
+    requires content { reply_content reply.now ≡ writes result_layout (code_number code, ([], (tt, tt))) }
     ensures ok { OnOk result (out.new.items ≡ out.old.items ++ reply_octets id reply.now) }
     ensures err { OnErr result (out.new.items ≡ out.old.items) }
     ensures succeeds { vec_len out.old + 17 ≤ vec_capacity out.old → IsOk result }
 {
     let tag = reply.response().tag();
+    let code = code.number();
     let [a, b, c, d] = id.to_be_bytes();
     if id < 128 {
         return out.extend_from_slice(&[

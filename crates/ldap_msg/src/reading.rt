@@ -14,7 +14,7 @@ use crate::controls::controls;
 use crate::extended::extended;
 use crate::kinds::{
     AddRequest, CompareRequest, Control, DeleteRequest, Message, ModifyRequest, RenameRequest,
-    Request,
+    Request, Update,
 };
 use crate::operations::Operation;
 use crate::search::search;
@@ -28,13 +28,13 @@ pub const MAX_ID: u32 = 2_147_483_647;
 fn modify(alloc: Global, content: &[u8]) -> Result<Request, ReadFault>
     ensures { Gives (λ request. request) result (request_in operation_is.Modify content.now) }
 {
-    Ok(Request::Modify(ModifyRequest::read(alloc, content)?))
+    Ok(Request::Update(Update::Modify(ModifyRequest::read(alloc, content)?)))
 }
 
 fn add(alloc: Global, content: &[u8]) -> Result<Request, ReadFault>
     ensures { Gives (λ request. request) result (request_in operation_is.Add content.now) }
 {
-    Ok(Request::Add(AddRequest::read(alloc, content)?))
+    Ok(Request::Update(Update::Add(AddRequest::read(alloc, content)?)))
 }
 
 fn extended_request(alloc: Global, content: &[u8]) -> Result<Request, ReadFault>
@@ -48,7 +48,14 @@ fn delete(alloc: Global, content: &[u8]) -> Result<Request, ReadFault>
     ensures { Gives (λ request. request) result (request_in operation_is.Delete content.now) }
 {
     let name = Octets::read(alloc, content)?;
-    Ok(Request::Delete(DeleteRequest { name }))
+    Ok(Request::Update(Update::Delete(DeleteRequest { name })))
+}
+
+fn rename(alloc: Global, content: &[u8]) -> Result<Request, ReadFault>
+    ensures { Gives (λ request. request) result (request_in operation_is.Rename content.now) }
+{
+    let rename = RenameRequest::read(alloc, content)?;
+    Ok(Request::Update(Update::Rename(rename)))
 }
 
 #[tactic(auto, unfolding(ber_layout::specs::Layouts::reads_into))]
@@ -79,7 +86,7 @@ fn request(alloc: Global, operation: Operation, content: &[u8]) -> Result<Reques
         Operation::Modify => modify(alloc, content),
         Operation::Add => add(alloc, content),
         Operation::Delete => delete(alloc, content),
-        Operation::Rename => Ok(Request::Rename(RenameRequest::read(alloc, content)?)),
+        Operation::Rename => rename(alloc, content),
         Operation::Compare => Ok(Request::Compare(CompareRequest::read(alloc, content)?)),
         Operation::Abandon => abandon(content),
         Operation::Extended => extended_request(alloc, content),
@@ -105,8 +112,10 @@ fn known(alloc: Global, controls: Option<OneOrMany<Control>>) -> OneOrMany<Contr
     }
 }
 
+/// The request that the content of a whole message says. `BadMessage` comes exactly where it is no
+/// request's (RFC 4511 section 4), and `NoMemory` may come in place of any answer.
 #[tactic(auto, unfolding(ber_layout::specs::Layouts::reads_into, crate::specs::reading::Messages::message_in))]
-fn components(alloc: Global, content: &[u8]) -> Result<Message, ReadFault>
+pub fn read_content(alloc: Global, content: &[u8]) -> Result<Message, ReadFault>
     ensures { Gives (λ message. message) result (message_in content.now) }
 {
     let id = integer(0x02, 1, MAX_ID, content)?;
@@ -131,7 +140,7 @@ fn message(alloc: Global, bytes: &[u8]) -> Result<Message, ReadFault>
     if !outer.rest.is_empty() {
         return Err(ReadFault::BadMessage);
     }
-    components(alloc, outer.content)
+    read_content(alloc, outer.content)
 }
 
 /// The request that the octets say. They are one whole message; `BadMessage` comes exactly where

@@ -14,7 +14,7 @@ ghost use Rattle.ldap_msg.specs.Replies.{Replies, IsShortReply, response_for, re
 
 use crate::controls::controls;
 use crate::kinds::{KindValues, LdapResult, NoMemory, Reply};
-use crate::operations::Response;
+use crate::operations::{Ending, Response, ResultCode};
 use crate::plain::{plain_code, put_plain};
 use crate::reading::MAX_ID;
 use crate::room::reply_room;
@@ -31,14 +31,8 @@ impl Reply {
         ensures { result ≡ response_for self.now }
     {
         match self {
-            Reply::Bind(_) => Response::Bind,
             Reply::Entry(_, _) => Response::Entry,
-            Reply::Done(_) => Response::Done,
-            Reply::Modify(_) => Response::Modify,
-            Reply::Add(_) => Response::Add,
-            Reply::Delete(_) => Response::Delete,
-            Reply::Rename(_) => Response::Rename,
-            Reply::Compare(_) => Response::Compare,
+            Reply::Ended(ending, _) => Response::Ended(*ending),
             Reply::Extended(_, _, _) => Response::Extended,
         }
     }
@@ -73,7 +67,7 @@ fn put_answered(
     ensures ok { OnOk result (out.new.items ≡ out.old.items ++ writes answered_layout (answered_parts ended.now name.now value.now)) }
     ensures kept { Extends out.old.items out.new.items }
 {
-    put_number(out, 0x0a, u32::from(ended.code))?;
+    put_number(out, 0x0a, u32::from(ended.code.number()))?;
     put_element(out, 0x04, ended.matched.as_slice())?;
     put_element(out, 0x04, &[])?;
     put_names(out, name, value)
@@ -85,14 +79,8 @@ fn put_content(out: &mut Vec<u8>, reply: &Reply) -> Result<(), NoMemory>
     ensures kept { Extends out.old.items out.new.items }
 {
     match reply {
-        Reply::Bind(ended) => ended.put(out),
         Reply::Entry(name, attributes) => put_entry(out, name.as_slice(), attributes.as_slice()),
-        Reply::Done(ended) => ended.put(out),
-        Reply::Modify(ended) => ended.put(out),
-        Reply::Add(ended) => ended.put(out),
-        Reply::Delete(ended) => ended.put(out),
-        Reply::Rename(ended) => ended.put(out),
-        Reply::Compare(ended) => ended.put(out),
+        Reply::Ended(_, ended) => ended.put(out),
         Reply::Extended(ended, name, value) => put_answered(out, ended, name, value),
     }
 }
@@ -147,7 +135,7 @@ fn put_in_room(out: &mut Vec<u8>, id: u32, reply: &Reply) -> Result<(), NoMemory
 /// of at most 2147483647 takes no memory where `out` has room for 17 octets more.
 pub fn put_reply(out: &mut Vec<u8>, id: u32, reply: &Reply) -> Result<(), NoMemory>
     ensures ok { OnOk result (out.new.items ≡ out.old.items ++ reply_octets id reply.now) }
-    // So it is read again, where its numbers are in the ranges of its layout.
+    // So it is read again, where the messageID is at most 2147483647.
     ensures short { OnOk result (IsShortReply id reply.now) }
     ensures err { OnErr result (out.new.items ≡ out.old.items) }
     ensures succeeds { IsPlain reply.now → id ≤ 2147483647 → vec_len out.old + 17 ≤ vec_capacity out.old → IsOk result }
@@ -197,6 +185,13 @@ fn entry_reply(alloc: Global, content: &[u8]) -> Result<Reply, ReadFault>
     Ok(Reply::Entry(name, attributes))
 }
 
+fn ended_reply(alloc: Global, ending: Ending, content: &[u8]) -> Result<Reply, ReadFault>
+    ensures { Gives (λ reply. reply) result (reply_in (response_is.Ended ending) content.now) }
+{
+    let ended = LdapResult::read(alloc, content)?;
+    Ok(Reply::Ended(ending, ended))
+}
+
 #[tactic(auto, unfolding(ber_layout::specs::Layouts::reads_into))]
 fn answered(alloc: Global, content: &[u8]) -> Result<Reply, ReadFault>
     ensures { Gives (λ reply. reply) result (reply_in response_is.Extended content.now) }
@@ -210,7 +205,7 @@ fn answered(alloc: Global, content: &[u8]) -> Result<Reply, ReadFault>
         return Err(ReadFault::BadMessage);
     }
     let ended = LdapResult {
-        code: code.value as u8,
+        code: ResultCode::numbered(code.value as u8),
         matched: matched.value,
     };
     Ok(Reply::Extended(ended, name.value, value.value))
@@ -221,14 +216,8 @@ fn reply(alloc: Global, response: Response, content: &[u8]) -> Result<Reply, Rea
     ensures { Gives (λ reply. reply) result (reply_in response content.now) }
 {
     match response {
-        Response::Bind => Ok(Reply::Bind(LdapResult::read(alloc, content)?)),
         Response::Entry => entry_reply(alloc, content),
-        Response::Done => Ok(Reply::Done(LdapResult::read(alloc, content)?)),
-        Response::Modify => Ok(Reply::Modify(LdapResult::read(alloc, content)?)),
-        Response::Add => Ok(Reply::Add(LdapResult::read(alloc, content)?)),
-        Response::Delete => Ok(Reply::Delete(LdapResult::read(alloc, content)?)),
-        Response::Rename => Ok(Reply::Rename(LdapResult::read(alloc, content)?)),
-        Response::Compare => Ok(Reply::Compare(LdapResult::read(alloc, content)?)),
+        Response::Ended(ending) => ended_reply(alloc, ending, content),
         Response::Extended => answered(alloc, content),
     }
 }

@@ -1,6 +1,7 @@
 //! Results (RFC 4511 4.1.9).
 
 use crate::kinds::{LdapResult, NoMemory};
+use crate::operations::ResultCode;
 use ber_layout::{Laid, ReadFault, ignored, integer, put_element, put_number, required};
 use plain_values::Octets;
 use std::alloc::Global;
@@ -21,13 +22,13 @@ impl Laid for LdapResult {
             return Err(ReadFault::BadMessage);
         }
         Ok(LdapResult {
-            code: code.value as u8,
+            code: ResultCode::numbered(code.value as u8),
             matched: matched.value,
         })
     }
 
     fn put(&self, out: &mut Vec<u8>) -> Result<(), NoMemory> {
-        put_number(out, 0x0a, u32::from(self.code))?;
+        put_number(out, 0x0a, u32::from(self.code.number()))?;
         put_element(out, 0x04, self.matched.as_slice())?;
         put_element(out, 0x04, &[])
     }

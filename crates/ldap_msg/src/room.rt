@@ -56,13 +56,7 @@ fn content_room(reply: &Reply) -> usize {
         Reply::Entry(name, attributes) => element_room(name.as_slice().len()).saturating_add(
             attributes_room(attributes.as_slice()),
         ),
-        Reply::Bind(ended)
-        | Reply::Done(ended)
-        | Reply::Modify(ended)
-        | Reply::Add(ended)
-        | Reply::Delete(ended)
-        | Reply::Rename(ended)
-        | Reply::Compare(ended) => result_room(ended),
+        Reply::Ended(_, ended) => result_room(ended),
         Reply::Extended(ended, name, value) => result_room(ended)
             .saturating_add(optional_room(name))
             .saturating_add(optional_room(value)),

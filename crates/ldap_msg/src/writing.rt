@@ -4,17 +4,31 @@ ghost use Rattle.std.specs.Prelude.{◌≡◌, ◌++◌, OnOk, OnErr};
 ghost use Rattle.ber_layout.specs.Layouts.{writes};
 ghost use Rattle.ber_layout.specs.Spellings.{Extends, element_octets};
 ghost use Rattle.ldap_msg.specs.operations.Operations.{request_tag};
-ghost use Rattle.ldap_msg.specs.reading.Contents.{operation_for, content_octets};
+ghost use Rattle.ldap_msg.specs.reading.Contents.{update_operation, operation_for, update_octets, content_octets};
 ghost use Rattle.ldap_msg.specs.reading.Messages.{message_layout, message_parts, request_octets, HasOwnTag};
 
 use crate::binds::put_bind;
 use crate::controls::put_controls;
 use crate::extended::put_extended;
-use crate::kinds::{Message, NoMemory, Request};
+use crate::kinds::{Message, NoMemory, Request, Update};
 use crate::operations::Operation;
 use crate::search::put_search;
 use ber_elements::put_int;
 use ber_layout::{Laid, enclose, put_number};
+
+impl Update {
+    /// The operation that is asked for.
+    pub fn operation(&self) -> Operation
+        ensures { result ≡ update_operation self.now }
+    {
+        match self {
+            Update::Modify(_) => Operation::Modify,
+            Update::Add(_) => Operation::Add,
+            Update::Delete(_) => Operation::Delete,
+            Update::Rename(_) => Operation::Rename,
+        }
+    }
+}
 
 impl Request {
     /// The operation that is asked for.
@@ -25,14 +39,24 @@ impl Request {
             Request::Bind(_) => Operation::Bind,
             Request::Unbind => Operation::Unbind,
             Request::Search(_) => Operation::Search,
-            Request::Modify(_) => Operation::Modify,
-            Request::Add(_) => Operation::Add,
-            Request::Delete(_) => Operation::Delete,
-            Request::Rename(_) => Operation::Rename,
+            Request::Update(update) => update.operation(),
             Request::Compare(_) => Operation::Compare,
             Request::Abandon(_) => Operation::Abandon,
             Request::Extended(_, _) => Operation::Extended,
         }
+    }
+}
+
+/// Appends the content of a request for a change.
+fn put_update(out: &mut Vec<u8>, update: &Update) -> Result<(), NoMemory>
+    ensures ok { OnOk result (out.new.items ≡ out.old.items ++ update_octets update.now) }
+    ensures kept { Extends out.old.items out.new.items }
+{
+    match update {
+        Update::Modify(modify) => modify.put(out),
+        Update::Add(add) => add.put(out),
+        Update::Delete(delete) => out.extend_from_slice(delete.name.as_slice()),
+        Update::Rename(rename) => rename.put(out),
     }
 }
 
@@ -46,10 +70,7 @@ fn put_content(out: &mut Vec<u8>, request: &Request) -> Result<(), NoMemory>
         Request::Bind(bind) => put_bind(out, bind),
         Request::Unbind => Ok(()),
         Request::Search(search) => put_search(out, search),
-        Request::Modify(modify) => modify.put(out),
-        Request::Add(add) => add.put(out),
-        Request::Delete(delete) => out.extend_from_slice(delete.name.as_slice()),
-        Request::Rename(rename) => rename.put(out),
+        Request::Update(update) => put_update(out, update),
         Request::Compare(compare) => compare.put(out),
         Request::Abandon(id) => put_int(out, i64::from(*id)),
         Request::Extended(name, value) => put_extended(out, name.as_slice(), value),

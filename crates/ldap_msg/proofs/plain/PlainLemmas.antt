@@ -1,6 +1,6 @@
 -- The octets of a messageID by their number (X.690 8.3.2), and of a reply that is a result with no matched name.
-use Rattle.std.proofs.Common.{◌≡◌, ℕ, ◌+◌, ◌*◌, ◌<◌, ◌≤◌, Bool, true, false, eqb, ltb, List, [], ◌∷◌, ◌++◌, length, length-append, refl, sym, ap, ◌∙◌, inl, inr, arith, w64}
-use Rattle.std.specs.Prelude.{ℤ, pos, ◌&&◌, Result, Ok, Err, OnOk, is_ok, if◌then◌else◌}
+use Rattle.std.proofs.Common.{◌≡◌, ℕ, ◌+◌, ◌<◌, ◌≤◌, Bool, true, false, eqb, ltb, List, [], ◌∷◌, ◌++◌, length, length-append, refl, sym, ap, ◌∙◌, inl, inr, arith, w64}
+use Rattle.std.specs.Prelude.{pos, ◌&&◌, Result, Ok, Err, OnOk, is_ok, if◌then◌else◌}
 use Rattle.std.specs.Int.{byte_at, to_be_bytes}
 use Rattle.std.proofs.lemmas.Bool.{cases_Bool, and_parts, eqb-true, ltb-true, eq-eqb, lt-ltb, le-ltb}
 use Rattle.ber_elements.specs.Integer.{trimmed, int_octets}
@@ -8,9 +8,12 @@ use Rattle.ber_elements.specs.write.Spelling.{length_octets}
 use Rattle.ber_layout.specs.Layouts.{writes}
 use Rattle.ber_layout.specs.Spellings.{element_octets}
 use Rattle.ldap_msg.specs.declared.kinds.Reply.{Reply}
+use Rattle.ldap_msg.specs.declared.operations.ResultCode.{ResultCode}
 use Rattle.ldap_msg.specs.operations.Operations.{response_tag}
+use Rattle.ldap_msg.specs.operations.ResultCodes.{code_number}
 use Rattle.ldap_msg.specs.Results.{result_layout}
 use Rattle.ldap_msg.specs.Replies.{IsShortReply, response_for, reply_content, reply_octets}
+use Rattle.ldap_msg.proofs.operations.CodeLemmas.{code_bound}
 
 -- a zero before an octet with a clear first bit is spare
 spare : (b c : ℕ) (octets : List ℕ) → b ≡ 0 → c < 128 → trimmed (b ∷ c ∷ octets) ≡ trimmed (c ∷ octets)
@@ -71,14 +74,16 @@ abbrev pub plain_octets : List ℕ → ℕ → List ℕ → List ℕ
 plain_octets number tag code =
     element_octets 48 (element_octets 2 number ++ (element_octets tag (element_octets 10 code ++ (element_octets 4 [] ++ (element_octets 4 [] ++ []))) ++ []))
 
-pub plain_is : (id code tag : ℕ) (answer : Reply) (number : List ℕ) → int_octets (pos id) ≡ number → code < 128 → tag ≡ response_tag (response_for answer)
-    → reply_content answer ≡ writes result_layout (code, ([], (tt, tt))) → reply_octets id answer ≡ plain_octets number tag (code ∷ [])
+pub plain_is : (id octet tag : ℕ) (code : ResultCode) (answer : Reply) (number : List ℕ) → int_octets (pos id) ≡ number → octet ≡ code_number code
+    → tag ≡ response_tag (response_for answer) → reply_content answer ≡ writes result_layout (code_number code, ([], (tt, tt)))
+    → reply_octets id answer ≡ plain_octets number tag (octet ∷ [])
 unfolding reply_octets
-plain_is id code tag answer number is few tagged content =
+plain_is id octet tag code answer number is coded tagged content =
     ap (λ (s : List ℕ). element_octets 48 (element_octets 2 (int_octets (pos id)) ++ (element_octets (response_tag (response_for answer)) s ++ []))) content
-    ∙ ap (λ (s : List ℕ). plain_octets s (response_tag (response_for answer)) (int_octets (pos code))) is
-    ∙ ap (λ (s : List ℕ). plain_octets number (response_tag (response_for answer)) s) (small code few)
-    ∙ ap (λ (t : ℕ). plain_octets number t (code ∷ [])) (sym tagged)
+    ∙ ap (λ (s : List ℕ). plain_octets s (response_tag (response_for answer)) (int_octets (pos (code_number code)))) is
+    ∙ ap (λ (s : List ℕ). plain_octets number (response_tag (response_for answer)) s) (small (code_number code) (code_bound code))
+    ∙ ap (λ (k : ℕ). plain_octets number (response_tag (response_for answer)) (k ∷ [])) (sym coded)
+    ∙ ap (λ (t : ℕ). plain_octets number t (octet ∷ [])) (sym tagged)
 
 -- octets that are trimmed are no more than they were
 fewer : (test : Bool) (one other : List ℕ) (most : ℕ) → length one ≤ most → length other ≤ most → length (if test then one else other) ≤ most
@@ -98,14 +103,15 @@ unfolding element_octets length_octets
 length-element tag content few = rw (lt-ltb (length content) 128 few) (omega arith)
 
 -- so the content of the message of such a reply is short
-pub plain_short : (id code : ℕ) (answer : Reply) → id ≤ 2147483647 → code < 128 → reply_content answer ≡ writes result_layout (code, ([], (tt, tt))) → IsShortReply id answer
-plain_short id code answer most few is =
+pub plain_short : (id : ℕ) (code : ResultCode) (answer : Reply) → id ≤ 2147483647 → reply_content answer ≡ writes result_layout (code_number code, ([], (tt, tt))) → IsShortReply id answer
+plain_short id code answer most is =
     let tag = response_tag (response_for answer) in
     let number = int_octets (pos id) in
     let number_few : length number ≤ 4 =
     omega (arith, ap length (low_four id (omega arith)), length-trimmed (byte_at 3 id ∷ byte_at 2 id ∷ byte_at 1 id ∷ byte_at 0 id ∷ [])) in
-    let code_few : length (element_octets 10 (int_octets (pos code))) ≡ 3 =
-    ap (λ (s : List ℕ). length (element_octets 10 s)) (small code few) ∙ length-element 10 (code ∷ []) (omega arith) in
+    let coded = code_number code in
+    let code_few : length (element_octets 10 (int_octets (pos coded))) ≡ 3 =
+    ap (λ (s : List ℕ). length (element_octets 10 s)) (small coded (code_bound code)) ∙ length-element 10 (coded ∷ []) (omega arith) in
     let none : length (element_octets 4 []) ≡ 2 = length-element 4 [] (omega arith) in
     let content_few : length (reply_content answer) ≡ 7 =
     ap length is ∙ simp length-append (omega (arith, code_few, none)) in

@@ -9,6 +9,8 @@ use Rattle.ber_layout.proofs.Theorems.{bind_some, reads_sound, reads_complete}
 use Rattle.ldap_msg.specs.declared.kinds.BindRequest.{BindRequest}
 use Rattle.ldap_msg.specs.declared.kinds.Request.{Request}
 use Rattle.ldap_msg.specs.declared.kinds.Request.TheVariants as request
+use Rattle.ldap_msg.specs.declared.kinds.Update.{Update}
+use Rattle.ldap_msg.specs.declared.kinds.Update.TheVariants as update
 use Rattle.ldap_msg.specs.declared.operations.Operation.{Operation}
 use Rattle.ldap_msg.specs.declared.operations.Operation.TheVariants as operation
 use Rattle.ldap_msg.specs.operations.Operations.{request_tag, operation_of}
@@ -17,7 +19,7 @@ use Rattle.ldap_msg.specs.Kinds.{modify_layout, modify_from, add_layout, add_fro
 use Rattle.ldap_msg.specs.declared.kinds.SearchRequest.{SearchRequest}
 use Rattle.ldap_msg.specs.Search.{search_of}
 use Rattle.ldap_msg.proofs.search.SearchLemmas.{search_sound, search_again}
-use Rattle.ldap_msg.specs.reading.Contents.{operation_for, SaysContent, extended_from, request_in}
+use Rattle.ldap_msg.specs.reading.Contents.{update_operation, operation_for, SaysUpdate, SaysContent, extended_from, request_in}
 
 -- the content says the request, which is of the operation
 pub record Sounds (is : Request) (asked : Operation) (content : List ℕ) : Type 0 where
@@ -44,15 +46,17 @@ request_sound operation.Search content is e =
     let a = bind_some (search_of content) (λ (search : SearchRequest). Some (request.Search search)) is e in
     subst (λ (r : Request). Sounds r operation.Search content) (same_Some (request.Search a.0) is a.2) (record { operation = refl; says = search_sound content a.0 a.1 })
 request_sound operation.Modify content is e =
-    by_reads modify_layout (λ parts. request.Modify (modify_from parts)) operation.Modify content is e
+    by_reads modify_layout (λ parts. request.Update (update.Modify (modify_from parts))) operation.Modify content is e
     (λ parts says. record { operation = refl; says = record { parts = parts; says = says; is = refl } })
 request_sound operation.Add content is e =
-    by_reads add_layout (λ parts. request.Add (add_from parts)) operation.Add content is e
+    by_reads add_layout (λ parts. request.Update (update.Add (add_from parts))) operation.Add content is e
     (λ parts says. record { operation = refl; says = record { parts = parts; says = says; is = refl } })
 request_sound operation.Delete content is e =
-    by_reads AnyOctets (λ name. request.Delete (record { name = name })) operation.Delete content is e (λ parts says. record { operation = refl; says = says })
+    by_reads AnyOctets (λ name. request.Update (update.Delete (record { name = name }))) operation.Delete content is e
+    (λ parts says. record { operation = refl; says = says })
 request_sound operation.Rename content is e =
-    by_reads rename_layout (λ parts. request.Rename (rename_from parts)) operation.Rename content is e (λ parts says. record { operation = refl; says = says })
+    by_reads rename_layout (λ parts. request.Update (update.Rename (rename_from parts))) operation.Rename content is e
+    (λ parts says. record { operation = refl; says = says })
 request_sound operation.Compare content is e =
     by_reads compare_layout (λ parts. request.Compare (compare_from parts)) operation.Compare content is e (λ parts says. record { operation = refl; says = says })
 request_sound operation.Abandon content is e =
@@ -65,18 +69,21 @@ again : {A : Type 0} (l : Layout) → is_clear l ≡ true → (make : Value l �
     → (reads l content >>= λ (parts : Value l). Some (make parts)) ≡ Some (make parts)
 again {A} l clear make parts content says = ap (λ (o : Option (Value l)). o >>= λ (p : Value l). Some (make p)) (reads_complete l parts content clear says)
 
+update_again : (is : Update) (content : List ℕ) → SaysUpdate is content → request_in (update_operation is) content ≡ Some (request.Update is)
+update_again (update.Modify modify) content says =
+    again modify_layout refl (λ parts. request.Update (update.Modify (modify_from parts))) says.parts content says.says ∙ ap (λ m. Some (request.Update (update.Modify m))) says.is
+update_again (update.Add add) content says =
+    again add_layout refl (λ parts. request.Update (update.Add (add_from parts))) says.parts content says.says ∙ ap (λ a. Some (request.Update (update.Add a))) says.is
+update_again (update.Delete delete) content says = again AnyOctets refl (λ name. request.Update (update.Delete (record { name = name }))) delete.name content says
+update_again (update.Rename rename) content says = again rename_layout refl (λ parts. request.Update (update.Rename (rename_from parts))) (rename_parts rename) content says
+
 pub request_again : (is : Request) (content : List ℕ) → SaysContent is content → request_in (operation_for is) content ≡ Some is
 request_again (request.Bind bind) content says =
     ap (λ (o : Option BindRequest). o >>= λ (b : BindRequest). Some (request.Bind b)) (again bind_layout refl bind_from says.parts content says.says)
     ∙ ap (λ (b : BindRequest). Some (request.Bind b)) says.is
 request_again request.Unbind content says = again End refl (λ parts. request.Unbind) tt content says
 request_again (request.Search search) content says = ap (λ (o : Option SearchRequest). o >>= λ (s : SearchRequest). Some (request.Search s)) (search_again search content says)
-request_again (request.Modify modify) content says =
-    again modify_layout refl (λ parts. request.Modify (modify_from parts)) says.parts content says.says ∙ ap (λ m. Some (request.Modify m)) says.is
-request_again (request.Add add) content says =
-    again add_layout refl (λ parts. request.Add (add_from parts)) says.parts content says.says ∙ ap (λ a. Some (request.Add a)) says.is
-request_again (request.Delete delete) content says = again AnyOctets refl (λ name. request.Delete (record { name = name })) delete.name content says
-request_again (request.Rename rename) content says = again rename_layout refl (λ parts. request.Rename (rename_from parts)) (rename_parts rename) content says
+request_again (request.Update update) content says = update_again update content says
 request_again (request.Compare compare) content says = again compare_layout refl (λ parts. request.Compare (compare_from parts)) (compare_parts compare) content says
 request_again (request.Abandon id) content says = again abandon_layout refl (λ number. request.Abandon number) id content says
 request_again (request.Extended name value) content says = again extended_layout refl extended_from (name, (value, tt)) content says

@@ -12,9 +12,7 @@ use Rattle.ber_layout.specs.Layouts.{Value, reads}
 use Rattle.ber_layout.specs.element.Reading.{Gives}
 use Rattle.ber_layout.proofs.Theorems.{bind_some, guard_passed, reads_sound, reads_complete, required_sound, required_again, follows}
 use Rattle.ldap_msg.specs.declared.kinds.Reply.{Reply}
-use Rattle.ldap_msg.specs.declared.kinds.Reply.TheVariants as reply
 use Rattle.ldap_msg.specs.declared.operations.Response.{Response}
-use Rattle.ldap_msg.specs.declared.operations.Response.TheVariants as response
 use Rattle.ldap_msg.specs.operations.Operations.{response_tag, response_of}
 use Rattle.ldap_msg.specs.reading.Messages.{id_part, tag_part, content_part}
 use Rattle.ldap_msg.specs.Replies.{reply_layout, response_for, SaysIn, Replies, reply_in, reply_at, answer_from, answer_in, reply_of}

@@ -1,11 +1,10 @@
 -- A search that is read is the one that its content says, and the one that it says is read.
-use Rattle.std.proofs.Common.{◌≡◌, ℕ, List, Option, Some, None, refl, sym, ap, subst, ◌∙◌}
+use Rattle.std.proofs.Common.{◌≡◌, ℕ, List, Option, Some, refl, ap, subst, ◌∙◌}
 use Rattle.std.proofs.lemmas.Option.{same_Some}
 use Rattle.ber_layout.specs.element.Pieces.{◌>>=◌}
 use Rattle.ber_layout.specs.Layouts.{Value, reads}
 use Rattle.ber_layout.proofs.Theorems.{bind_some, reads_sound, reads_complete}
 use Rattle.ldap_filter.specs.filter.Filters.{Filter}
-use Rattle.ldap_filter.specs.reading.FilterLayouts.{IsFilter}
 use Rattle.ldap_filter.specs.reading.FilterReading.{filter_of}
 use Rattle.ldap_filter.proofs.Theorems.{filter_sound, filter_complete}
 use Rattle.ldap_msg.specs.declared.kinds.SearchRequest.{SearchRequest}

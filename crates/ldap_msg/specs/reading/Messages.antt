@@ -73,10 +73,7 @@ abbrev pub HasOwnTag : Request → Type 0
 HasOwnTag (request.Bind bind) = HasTag bind.auth
 HasOwnTag request.Unbind = Unit {0}
 HasOwnTag (request.Search search) = Unit {0}
-HasOwnTag (request.Modify modify) = Unit {0}
-HasOwnTag (request.Add add) = Unit {0}
-HasOwnTag (request.Delete delete) = Unit {0}
-HasOwnTag (request.Rename rename) = Unit {0}
+HasOwnTag (request.Update update) = Unit {0}
 HasOwnTag (request.Compare compare) = Unit {0}
 HasOwnTag (request.Abandon id) = Unit {0}
 HasOwnTag (request.Extended name value) = Unit {0}

@@ -16,7 +16,7 @@ returns-then-id-lt128-clause-ok c =
     let number : int_octets (pos c.args.id) ≡ get_or bytes 3 0 ∷ [] =
     one_octet c.args.id c.if-id-lt128.true ∙ ap (λ (l : List ℕ). get_or l 3 0 ∷ []) (sym c.to_be_bytes.ensures) in
     let tagged : c.tag-tag.result ≡ response_tag (response_for c.args.reply.now) = c.tag-tag.ensures.exact ∙ ap response_tag c.response.ensures in
-    rw (plain_is c.args.id c.args.code c.tag-tag.result c.args.reply.now (get_or bytes 3 0 ∷ []) number c.requires.few tagged c.requires.content) (
+    rw (plain_is c.args.id c.number-code.result c.tag-tag.result c.args.code c.args.reply.now (get_or bytes 3 0 ∷ []) number c.number-code.ensures.exact tagged c.requires.content) (
     where_ok c.extend_from_slice.result _ _ c.args.out.now.items c.extend_from_slice.ensures.items
     )
 
@@ -27,7 +27,7 @@ returns-then-id-lt32768-clause-ok c =
     let number : int_octets (pos c.args.id) ≡ get_or bytes 2 0 ∷ get_or bytes 3 0 ∷ [] =
     two_octets c.args.id c.if-id-lt128.false c.if-id-lt32768.true ∙ ap (λ (l : List ℕ). get_or l 2 0 ∷ get_or l 3 0 ∷ []) (sym c.to_be_bytes.ensures) in
     let tagged : c.tag-tag.result ≡ response_tag (response_for c.args.reply.now) = c.tag-tag.ensures.exact ∙ ap response_tag c.response.ensures in
-    rw (plain_is c.args.id c.args.code c.tag-tag.result c.args.reply.now (get_or bytes 2 0 ∷ get_or bytes 3 0 ∷ []) number c.requires.few tagged c.requires.content) (
+    rw (plain_is c.args.id c.number-code.result c.tag-tag.result c.args.code c.args.reply.now (get_or bytes 2 0 ∷ get_or bytes 3 0 ∷ []) number c.number-code.ensures.exact tagged c.requires.content) (
     where_ok c.extend_from_slice-then-id-lt32768.result _ _ c.args.out.now.items c.extend_from_slice-then-id-lt32768.ensures.items
     )
 
@@ -38,7 +38,7 @@ returns-then-id-lt8388608-clause-ok c =
     let number : int_octets (pos c.args.id) ≡ get_or bytes 1 0 ∷ get_or bytes 2 0 ∷ get_or bytes 3 0 ∷ [] =
     three_octets c.args.id c.if-id-lt32768.false c.if-id-lt8388608.true ∙ ap (λ (l : List ℕ). get_or l 1 0 ∷ get_or l 2 0 ∷ get_or l 3 0 ∷ []) (sym c.to_be_bytes.ensures) in
     let tagged : c.tag-tag.result ≡ response_tag (response_for c.args.reply.now) = c.tag-tag.ensures.exact ∙ ap response_tag c.response.ensures in
-    rw (plain_is c.args.id c.args.code c.tag-tag.result c.args.reply.now (get_or bytes 1 0 ∷ get_or bytes 2 0 ∷ get_or bytes 3 0 ∷ []) number c.requires.few tagged c.requires.content) (
+    rw (plain_is c.args.id c.number-code.result c.tag-tag.result c.args.code c.args.reply.now (get_or bytes 1 0 ∷ get_or bytes 2 0 ∷ get_or bytes 3 0 ∷ []) number c.number-code.ensures.exact tagged c.requires.content) (
     where_ok c.extend_from_slice-then-id-lt8388608.result _ _ c.args.out.now.items c.extend_from_slice-then-id-lt8388608.ensures.items
     )
 
@@ -49,6 +49,6 @@ returns-clause-ok c =
     let number : int_octets (pos c.args.id) ≡ get_or bytes 0 0 ∷ get_or bytes 1 0 ∷ get_or bytes 2 0 ∷ get_or bytes 3 0 ∷ [] =
     four_octets c.args.id c.if-id-lt8388608.false (omega (arith, c.requires.id)) ∙ ap (λ (l : List ℕ). get_or l 0 0 ∷ get_or l 1 0 ∷ get_or l 2 0 ∷ get_or l 3 0 ∷ []) (sym c.to_be_bytes.ensures) in
     let tagged : c.tag-tag.result ≡ response_tag (response_for c.args.reply.now) = c.tag-tag.ensures.exact ∙ ap response_tag c.response.ensures in
-    rw (plain_is c.args.id c.args.code c.tag-tag.result c.args.reply.now (get_or bytes 0 0 ∷ get_or bytes 1 0 ∷ get_or bytes 2 0 ∷ get_or bytes 3 0 ∷ []) number c.requires.few tagged c.requires.content) (
+    rw (plain_is c.args.id c.number-code.result c.tag-tag.result c.args.code c.args.reply.now (get_or bytes 0 0 ∷ get_or bytes 1 0 ∷ get_or bytes 2 0 ∷ get_or bytes 3 0 ∷ []) number c.number-code.ensures.exact tagged c.requires.content) (
     where_ok c.extend_from_slice-2.result _ _ c.args.out.now.items c.extend_from_slice-2.ensures.items
     )
