@@ -3,8 +3,8 @@ use Rattle.std.specs.Prelude.{ℕ, List, Option, Some, None}
 use Rattle.std.specs.List.{AllByRecursion}
 use Rattle.session_model.specs.ldap_msg.declared.kinds.Message.{Message}
 use Rattle.session_model.specs.ldap_msg.reading.Messages.{message_of}
-use Rattle.session_model.specs.AnsweredMessages.{AnsweredMessage, answered_messages, answered_of_kept, answered_of_held}
-use Rattle.session_model.specs.Kept.{Kept, Held}
+use Rattle.session_model.specs.AnsweredMessages.{AnsweredMessage, answered_messages, answered_of_held}
+use Rattle.session_model.specs.Kept.{Held}
 use Rattle.session_model.specs.Run.{Step}
 use Rattle.op_read.specs.Short.{IsShortPage}
 use Rattle.session_hub.specs.Parties.{DirectoryEntries, Requester}
@@ -28,10 +28,6 @@ IsAnsweredShort terms asked = IsShortAnswer asked.tree asked.who (limited_read t
 -- so are the answers to messages in their order, up to one that closes the connection
 abbrev pub AreAnsweredShort : Terms → DirectoryEntries → Requester → List (List ℕ) → Type 0
 AreAnsweredShort terms entries who messages = AllByRecursion (IsAnsweredShort terms) (answered_messages (rules terms) entries who messages)
-
--- so are those that a piece completes for a connection, where it is held and open, up to a cut
-abbrev pub HearsShort : Terms → Option (Kept Requester) → DirectoryEntries → List ℕ → Option ℕ → Type 0
-HearsShort terms connection entries piece cut = AllByRecursion (IsAnsweredShort terms) (answered_of_kept (rules terms) connection entries piece cut)
 
 -- so are those that a step answers
 abbrev pub StepsShort : Terms → Step → Held DirectoryEntries Requester → Type 0

@@ -5,7 +5,7 @@ use Rattle.std.proofs.Math.Bool.{or-false}
 use Rattle.session_model.specs.ldap_msg.Streams.{whole, rest_of, is_broken}
 use Rattle.session_model.proofs.ldap_msg_proofs.Theorems.{rest_bound}
 use Rattle.session_model.specs.Rules.{Answered, talk, up_to}
-use Rattle.session_model.specs.AnsweredMessages.{answered_messages}
+use Rattle.session_model.specs.AnsweredMessages.{answered_messages, answered_of_held}
 use Rattle.session_model.specs.Kept.{Kept, Held, kept_of, cut_of, changed, speech, heard, heard_piece, is_cut}
 use Rattle.session_model.proofs.Theorems.{speech-cut}
 use Rattle.session_hub.specs.Parties.{DirectoryEntries, Requester}
@@ -126,13 +126,13 @@ ended_bounded terms room t w stream old new u y spoken rest end speaks keeps = b
 
 -- a piece for a connection that isn't held, for one that is closing, and for one that is open
 pub hears_nowhere : (terms : Terms) (c : ℕ) (piece : List ℕ) (t : DirectoryEntries) (ks : List (Kept Requester)) (changes : List ℕ) → kept_of c ks ≡ None → HearsAt terms c piece t ks changes t ks changes false
-unfolding heard
-hears_nowhere terms c piece t ks changes none = record { same = λ b. rw (or-false b, none) refl; short = rw none tt }
+unfolding heard answered_of_held
+hears_nowhere terms c piece t ks changes none = record { same = λ b. rw (or-false b, none) refl; short = λ b. rw none tt }
 
 pub hears_closing : (terms : Terms) (c at : ℕ) (piece : List ℕ) (t : DirectoryEntries) (ks : List (Kept Requester)) (changes : List ℕ) (k : Kept Requester) → IsAt c at ks → k ≡ get_or ks at k → k.closing ≡ true →
     HearsAt terms c piece t ks changes t ks changes false
-unfolding heard
-hears_closing terms c at piece t ks changes k place is shut = record { same = λ b. rw (or-false b, kept_at_is c at ks k place is, shut) refl; short = rw (kept_at_is c at ks k place is, shut) tt }
+unfolding heard answered_of_held
+hears_closing terms c at piece t ks changes k place is shut = record { same = λ b. rw (or-false b, kept_at_is c at ks k place is, shut) refl; short = λ b. rw (kept_at_is c at ks k place is, shut) tt }
 
 held_is : (t u : DirectoryEntries) (ks ls : List (Kept Requester)) (b d : Bool) (xs ys : List ℕ) → t ≡ u → ks ≡ ls → b ≡ d → xs ≡ ys →
     ◌≡◌ {A = Held DirectoryEntries Requester} (record { tree = t; kept = ks; was_cut = b; unstored = xs }) (record { tree = u; kept = ls; was_cut = d; unstored = ys })
@@ -140,7 +140,7 @@ held_is t u ks ls b d xs ys e f g h = rw (e, f, g, h) refl
 
 pub hears_open : (terms : Terms) (c at : ℕ) (piece : List ℕ) (t u : DirectoryEntries) (ks : List (Kept Requester)) (k k' : Kept Requester) (changes now : List ℕ) (was_cut : Bool) → IsAt c at ks → k ≡ get_or ks at k → k.closing ≡ false →
     HearsPiece terms piece t k changes u k' now → was_cut ≡ is_cut k'.cut → HearsAt terms c piece t ks changes u (set ks at k') now was_cut
-unfolding heard
+unfolding heard answered_of_held
 hears_open terms c at piece t u ks k k' changes now was_cut place is still hears told =
     let found = kept_at_is c at ks k place is in
     let put : set ks at k' ≡ changed c (λ _. k') ks = sym (changed_at c at (λ _. k') ks k place is) in
@@ -152,7 +152,7 @@ hears_open terms c at piece t u ks k k' changes now was_cut place is still hears
           rw (found, still, cut_is)
           (held_is u a.tree (set ks at k') (changed c (λ _. heard_piece (rules terms) piece k'.cut k a) ks) (b || was_cut) (b || is_cut k'.cut) now (changes ++ a.changes)
           hears.entries (put ∙ ap (λ x. changed c (λ _. x) ks) hears.kept) (ap (λ x. b || x) told) hears.changes);
-      short = rw (found, still, cut_is) hears.short;
+      short = λ b. rw (found, still, cut_is) hears.short;
     }
 
 -- whether a cut is there

@@ -9,7 +9,7 @@ use Rattle.session_hub.specs.declared.bounds.Bounds.{Bounds}
 use Rattle.session_hub.specs.declared.event.Event.{Event}
 use Rattle.session_hub.specs.declared.event.Event.TheVariants as event
 use Rattle.session_hub.specs.Answering.{rules}
-use Rattle.session_hub.specs.ShortAnswers.{HearsShort, StepsShort}
+use Rattle.session_hub.specs.ShortAnswers.{StepsShort}
 use Rattle.session_hub.specs.Event.{step_by, new_cut}
 use Rattle.session_hub.specs.connection.Limits.{most_unread}
 
@@ -46,7 +46,9 @@ pub record HearsAt (terms : Terms) (number : ℕ) (piece : List ℕ) (before : D
       let cut = new_cut (kept_of number old) (cut_of number new) in
       record { tree = after; kept = new; was_cut = cut_before || was_cut; unstored = unstored_after }
       ≡ heard (rules terms) (Bytes number piece cut) (record { tree = before; kept = old; was_cut = cut_before; unstored = unstored })
-  pub short : HearsShort terms (kept_of number old) before piece (new_cut (kept_of number old) (cut_of number new))
+  pub short : (cut_before : Bool) →
+      let cut = new_cut (kept_of number old) (cut_of number new) in
+      StepsShort terms (Bytes number piece cut) (record { tree = before; kept = old; was_cut = cut_before; unstored = unstored })
 
 -- the event opens a connection that is then held
 abbrev pub OpensOne : Event → List (Kept Requester) → Type 0
