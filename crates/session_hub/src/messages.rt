@@ -230,11 +230,7 @@ fn put_kept(keeps: bool, update: &Update, changes: &mut Vec<u8>) -> Result<(), A
 }
 
 /// Appends the response to a change.
-fn put_changed(
-    wanted: Wanted<'_>,
-    ended: LdapResult,
-    out: &mut Vec<u8>,
-) -> Result<(), AllocError>
+fn put_changed(wanted: Wanted<'_>, ended: LdapResult, out: &mut Vec<u8>) -> Result<(), AllocError>
     ensures ok { OnOk result (Puts wanted.entry.id
         (reply.Ended (ending_for wanted.entry.update.now) ended ∷ [])
         out.old.items out.new.items) }

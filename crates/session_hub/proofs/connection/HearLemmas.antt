@@ -50,10 +50,10 @@ has_ended terms room t w stream old new u y spoken rest IsFull speaks keeps =
 has_ended terms room t w stream old new u y spoken rest IsCut speaks keeps =
     elim keeps.0 [
       | inl open_ ↦ record {
-          gives = speaks.cuts open_;
-          unread = keeps.1;
-          short = all_cut (rules terms) (IsAnsweredShort terms) spoken.answered t w (whole stream) (subst (λ e. AreAnsweredShort terms t w (up_to (cut_at e spoken.answered) (whole stream))) open_ speaks.short);
-        }
+        gives = speaks.cuts open_;
+        unread = keeps.1;
+        short = all_cut (rules terms) (IsAnsweredShort terms) spoken.answered t w (whole stream) (subst (λ e. AreAnsweredShort terms t w (up_to (cut_at e spoken.answered) (whole stream))) open_ speaks.short);
+      }
       | inr cut ↦ record { gives = subst (λ e. Gives (said_to terms (cut_at e spoken.answered) t w stream) old new u y (closes_at e)) cut speaks.gives; unread = keeps.1; short = subst (λ e. AreAnsweredShort terms t w (up_to (cut_at e spoken.answered) (whole stream))) cut speaks.short }
     ]
 
