@@ -30,6 +30,8 @@ use Rattle.change_laws.specs.op_modify.ldap_msg.declared.kinds.DeleteRequest.{De
 use Rattle.change_laws.specs.op_modify.ldap_msg.declared.kinds.RenameRequest.{RenameRequest}
 use Rattle.change_laws.specs.op_modify.ldap_msg.declared.kinds.Request.{Request}
 use Rattle.change_laws.specs.op_modify.ldap_msg.declared.kinds.Request.TheVariants as request
+use Rattle.change_laws.specs.op_modify.ldap_msg.declared.kinds.Update.{Update}
+use Rattle.change_laws.specs.op_modify.ldap_msg.declared.kinds.Update.TheVariants as update
 
 -- ---- what all have
 
@@ -191,19 +193,14 @@ applied_rename entries request = renaming_by (read_renaming request) >>= with_re
 
 -- ---- any request
 
--- no change
-abbrev pub no_change : Result (List EntryInformation) ResultCode
-no_change = Err code.ProtocolError
+-- what a change leaves
+abbrev pub applied_update : List EntryInformation → Update → Result (List EntryInformation) ResultCode
+applied_update entries (update.Modify modify) = applied_modify entries modify
+applied_update entries (update.Add add) = applied_add entries add
+applied_update entries (update.Delete delete) = applied_delete entries delete
+applied_update entries (update.Rename rename) = applied_rename entries rename
 
 -- what a request leaves; one that changes nothing is none that may be applied
 abbrev pub applied : List EntryInformation → Request → Result (List EntryInformation) ResultCode
-applied entries (request.Bind bind) = no_change
-applied entries request.Unbind = no_change
-applied entries (request.Search search) = no_change
-applied entries (request.Modify modify) = applied_modify entries modify
-applied entries (request.Add add) = applied_add entries add
-applied entries (request.Delete delete) = applied_delete entries delete
-applied entries (request.Rename rename) = applied_rename entries rename
-applied entries (request.Compare compare) = no_change
-applied entries (request.Abandon id) = no_change
-applied entries (request.Extended name value) = no_change
+applied entries (request.Update change) = applied_update entries change
+applied entries other = Err code.ProtocolError

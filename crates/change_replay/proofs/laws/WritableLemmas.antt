@@ -21,6 +21,7 @@ use Rattle.change_laws.specs.op_modify.ldap_msg.declared.kinds.AddRequest.{AddRe
 use Rattle.change_laws.specs.op_modify.ldap_msg.declared.kinds.ModifyRequest.{ModifyRequest}
 use Rattle.change_laws.specs.op_modify.ldap_msg.declared.kinds.Request.{Request}
 use Rattle.change_laws.specs.op_modify.ldap_msg.declared.kinds.Request.TheVariants as request
+use Rattle.change_laws.specs.op_modify.ldap_msg.declared.kinds.Update.TheVariants as update
 use Rattle.change_records.specs.Laws.{WritesKnownTypes}
 use Rattle.change_records.specs.Writable.{IsWritableAttribute, is_standard, IsWritableChange, IsWritableGiven, AreApart, IsWritable}
 use Rattle.change_replay.specs.Applied.{name_in, with_changed_named, with_modified, applied_modify, with_new, with_named, applied_add, applied}
@@ -189,15 +190,10 @@ module _ (known : WritesKnownTypes) where
   -- ---- any request
   pub writable-applied :
       (entries left : List EntryInformation) (change : Request) → applied entries change ≡ Ok left → IsOfOctets change → IsWritable change
-  writable-applied entries left (request.Bind bind) is octets = absurd cc
-  writable-applied entries left request.Unbind is octets = absurd cc
-  writable-applied entries left (request.Search search) is octets = absurd cc
-  writable-applied entries left (request.Modify modify) is octets = (octets.0, writable-modify known entries left modify is octets.1)
-  writable-applied entries left (request.Add add) is octets =
+  writable-applied entries left (request.Update (update.Modify modify)) is octets = (octets.0, writable-modify known entries left modify is octets.1)
+  writable-applied entries left (request.Update (update.Add add)) is octets =
       let both = writable-add entries left add is octets.1 in
       (octets.0, both.0, both.1)
-  writable-applied entries left (request.Delete delete) is octets = octets
-  writable-applied entries left (request.Rename rename) is octets = octets
-  writable-applied entries left (request.Compare compare) is octets = absurd cc
-  writable-applied entries left (request.Abandon id) is octets = absurd cc
-  writable-applied entries left (request.Extended name value) is octets = absurd cc
+  writable-applied entries left (request.Update (update.Delete delete)) is octets = octets
+  writable-applied entries left (request.Update (update.Rename rename)) is octets = octets
+  writable-applied entries left other is octets = absurd cc
