@@ -2,7 +2,6 @@
 use Rattle.std.specs.Prelude.{◌≡◌, Bool, false, [], ◌∷◌}
 use Rattle.ldap_msg.specs.declared.operations.ResultCode.TheVariants as code
 use Rattle.ldap_msg.specs.declared.operations.Ending.{Ending}
-use Rattle.ldap_msg.specs.declared.kinds.Update.{Update}
 use Rattle.ldap_msg.specs.declared.kinds.Message.{Message}
 use Rattle.ldap_msg.specs.declared.kinds.Reply.TheVariants as reply
 use Rattle.change_laws.specs.op_add_delete.adding.Updates.{Made}
@@ -12,11 +11,11 @@ use Rattle.session_hub.specs.session_model.Rules.{Answered}
 use Rattle.session_hub.specs.Parties.{DirectoryEntries, Requester}
 use Rattle.session_hub.specs.Answering.{recorded, kept_changes}
 
--- the message with this change is answered by one response of this kind, with success; what is to be stored is the record of
--- the change, where changes are kept; these entries are left, the requester stays, and so does the connection
-pub record IsMade (keeps : Bool) (who : Requester) (message : Message) (asked : Update) (response : Ending) (left : DirectoryEntries) (answer : Answered DirectoryEntries Requester) : Type 0 where
+-- the message is answered by one response of this kind, with success; what is to be stored is the record of its change, where
+-- changes are kept; these entries are left, the requester stays, and so does the connection
+pub record IsMade (keeps : Bool) (who : Requester) (message : Message) (response : Ending) (left : DirectoryEntries) (answer : Answered DirectoryEntries Requester) : Type 0 where
   pub replies : answer.replies ≡ replies_octets message.id (reply.Ended response (result_of code.Success) ∷ [])
-  pub changes : answer.changes ≡ kept_changes keeps (recorded (Made left) asked)
+  pub changes : answer.changes ≡ kept_changes keeps (recorded (Made left) message.request)
   pub tree : answer.tree ≡ left
   pub who_stays : answer.who ≡ who
   pub stays : answer.closes ≡ false

@@ -51,19 +51,19 @@ pub fn a_message_with_a_compare_that_is_granted_is_done()
 pub fn a_message_with_a_change_that_is_granted_is_done()
     ensures added { (keeps : Bool) (entries : List EntryInformation) (who : Requester) (message : Message)
         (add : AddRequest) (entry : EntryInformation) → AsksFor message (request.Update (update.Add add)) → MayAdd entries who add entry
-        → IsMade keeps who message (update.Add add) ending.Add (put_in entry entries) (answer_read keeps entries who (Some message)) }
+        → IsMade keeps who message ending.Add (put_in entry entries) (answer_read keeps entries who (Some message)) }
     ensures deleted { (keeps : Bool) (entries : List EntryInformation) (who : Requester) (message : Message)
         (delete : DeleteRequest) (target : EntryInformation) → AsksFor message (request.Update (update.Delete delete))
         → MayDelete entries who delete target
-        → IsMade keeps who message (update.Delete delete) ending.Delete (taken_out target.name entries) (answer_read keeps entries who (Some message)) }
+        → IsMade keeps who message ending.Delete (taken_out target.name entries) (answer_read keeps entries who (Some message)) }
     ensures modified { (keeps : Bool) (entries : List EntryInformation) (who : Requester) (message : Message)
         (modify : ModifyRequest) (target left : EntryInformation) → AsksFor message (request.Update (update.Modify modify))
         → MayModify entries who modify target left
-        → IsMade keeps who message (update.Modify modify) ending.Modify (put_in left (taken_out target.name entries)) (answer_read keeps entries who (Some message)) }
+        → IsMade keeps who message ending.Modify (put_in left (taken_out target.name entries)) (answer_read keeps entries who (Some message)) }
     ensures renamed { (keeps : Bool) (entries : List EntryInformation) (who : Requester) (message : Message)
         (rename : RenameRequest) (target entry : EntryInformation) → AsksFor message (request.Update (update.Rename rename))
         → MayRename entries who rename target entry
-        → IsMade keeps who message (update.Rename rename) ending.Rename (put_in entry (taken_out target.name entries)) (answer_read keeps entries who (Some message)) }
+        → IsMade keeps who message ending.Rename (put_in entry (taken_out target.name entries)) (answer_read keeps entries who (Some message)) }
 {
     exactly_what_may_be_done_is_done();
     exactly_what_may_be_changed_is_changed();

@@ -241,10 +241,10 @@ queues_beside = refl
 
 -- the record of a delete that is made, and none of one that is refused, nor of a search; and none is to be stored where no
 -- changes are kept
-recorded_delete : recorded (Made []) (update.Delete (record { name = codes "o=A" })) ≡ record_text (update.Delete (record { name = codes "o=A" }))
+recorded_delete : recorded (Made []) (request.Update (update.Delete (record { name = codes "o=A" }))) ≡ record_text (request.Update (update.Delete (record { name = codes "o=A" })))
 recorded_delete = refl
 
-refused_delete : recorded (Refused (result_of code.NoSuchObject)) (update.Delete (record { name = codes "o=A" })) ≡ []
+refused_delete : recorded (Refused (result_of code.NoSuchObject)) (request.Update (update.Delete (record { name = codes "o=A" }))) ≡ []
 refused_delete = refl
 
 recorded_search : recorded (Made []) (request.Search a_search) ≡ []

@@ -112,7 +112,7 @@ change_result (Refused refusal) = refusal
 change_result (Made after) = result_of code.Success
 
 -- the record of a change that is made (RFC 2849, ldif-change-record), and none of one that is refused
-abbrev pub recorded : Changed → Update → List ℕ
+abbrev pub recorded : Changed → Request → List ℕ
 recorded (Refused refusal) asked = []
 recorded (Made after) asked = record_text asked
 
@@ -121,7 +121,7 @@ abbrev pub changing : DirectoryEntries → Requester → Update → Changed → 
 changing entries who asked changed = record {
   replies = reply.Ended (ending_for asked) (change_result changed) ∷ [];
   cookie = None;
-  changes = recorded changed asked;
+  changes = recorded changed (request.Update asked);
   entries = left_by entries changed;
   who = who;
 }

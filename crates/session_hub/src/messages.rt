@@ -8,6 +8,7 @@ ghost use Rattle.op_read.specs.read_model.Views.{view_of, result_of as result_wi
 ghost use Rattle.op_read.specs.Short.{IsShortPage, Puts};
 ghost use Rattle.op_read.specs.read_model.CompareReplies.{compare_result};
 ghost use Rattle.session_model.specs.ldap_msg.declared.kinds.Reply.TheVariants as reply;
+ghost use Rattle.session_model.specs.ldap_msg.declared.kinds.Request.TheVariants as request;
 ghost use Rattle.session_model.specs.ldap_msg.declared.operations.Ending.TheVariants as ending;
 ghost use Rattle.change_laws.specs.op_add_delete.adding.Updates.{IsChanged};
 ghost use Rattle.change_records.specs.Written.{record_text};
@@ -190,11 +191,12 @@ fn put_compare<D: Dir>(
     put_reply(out, id, &Reply::Ended(Ending::Compare, found))
 }
 
-/// A change that is asked for, with the number of the message that asks for it.
+/// A change, with the message that asks for it.
 #[derive(Clone, Copy)]
 struct Wanted<'a> {
-    id: u32,
+    message: &'a Message,
     update: &'a Update,
+    ghost asks: { message.now.request ≡ request.Update update.now },
 }
 
 /// Changes the entries as is asked for. None where nothing refuses it. After `AllocError` all is as it was.
@@ -218,12 +220,12 @@ fn change<D: Dir>(
 }
 
 /// Appends the record of a change, where changes are kept. After `AllocError` nothing was appended.
-fn put_kept(keeps: bool, update: &Update, changes: &mut Vec<u8>) -> Result<(), AllocError>
-    ensures ok { OnOk result (changes.new.items ≡ changes.old.items ++ kept_changes keeps (record_text update.now)) }
+fn put_kept(keeps: bool, request: &Request, changes: &mut Vec<u8>) -> Result<(), AllocError>
+    ensures ok { OnOk result (changes.new.items ≡ changes.old.items ++ kept_changes keeps (record_text request.now)) }
     ensures err { OnErr result (changes.new.items ≡ changes.old.items) }
 {
     if keeps {
-        put_record(changes, update)
+        put_record(changes, request)
     } else {
         Ok(())
     }
@@ -231,13 +233,13 @@ fn put_kept(keeps: bool, update: &Update, changes: &mut Vec<u8>) -> Result<(), A
 
 /// Appends the response to a change.
 fn put_changed(wanted: Wanted<'_>, ended: LdapResult, out: &mut Vec<u8>) -> Result<(), AllocError>
-    ensures ok { OnOk result (Puts wanted.entry.id
+    ensures ok { OnOk result (Puts wanted.entry.message.now.id
         (reply.Ended (ending_for wanted.entry.update.now) ended ∷ [])
         out.old.items out.new.items) }
     ensures err { OnErr result (out.new.items ≡ out.old.items) }
 {
     let reply = Reply::Ended(ending_for(wanted.update), ended);
-    put_reply(out, wanted.id, &reply)
+    put_reply(out, wanted.message.id, &reply)
 }
 
 /// Appends what an accepted change has appended: its record and its reply. After `AllocError` nothing was appended.
@@ -247,16 +249,16 @@ fn put_accepted(
     keeps: bool,
     out: &mut Outgoing,
 ) -> Result<(), AllocError>
-    ensures ok { OnOk result (Puts wanted.entry.id
+    ensures ok { OnOk result (Puts wanted.entry.message.now.id
         (reply.Ended (ending_for wanted.entry.update.now) (result_with code.Success) ∷ [])
         out.old.replies.items out.new.replies.items) }
     ensures recorded { OnOk result (out.new.changes.items ≡ out.old.changes.items
-        ++ kept_changes keeps (record_text wanted.entry.update.now)) }
+        ++ kept_changes keeps (record_text (request.Update wanted.entry.update.now))) }
     ensures err { OnErr result (out.new.replies.items ≡ out.old.replies.items) }
     ensures unrecorded { OnErr result (out.new.changes.items ≡ out.old.changes.items) }
 {
     let before = out.changes.len();
-    put_kept(keeps, wanted.update, &mut out.changes)?;
+    put_kept(keeps, &wanted.message.request, &mut out.changes)?;
     let ended = result_of(alloc, ResultCode::Success);
     match put_changed(wanted, ended, &mut out.replies) {
         Ok(()) => Ok(()),
@@ -278,7 +280,7 @@ fn put_refusal(
 ) -> Result<(), AllocError>
     requires replies { first ≤ vec_len out.old.replies }
     requires changes { kept ≤ vec_len out.old.changes }
-    ensures ok { OnOk result (Puts wanted.entry.id (reply.Ended (ending_for wanted.entry.update.now) refusal ∷ [])
+    ensures ok { OnOk result (Puts wanted.entry.message.now.id (reply.Ended (ending_for wanted.entry.update.now) refusal ∷ [])
         (take first out.old.replies.items) out.new.replies.items) }
     ensures err { OnErr result (out.new.replies.items ≡ take first out.old.replies.items) }
     ensures unrecorded { out.new.changes.items ≡ take kept out.old.changes.items }
@@ -299,7 +301,7 @@ fn put_change<D: Dir>(
     keeps: bool,
     out: &mut Outgoing,
 ) -> Result<(), AllocError>
-    ensures ok { OnOk result (Sends wanted.entry.id
+    ensures ok { OnOk result (Sends wanted.entry.message.now.id
         (changing (entries_of (D.rows dir.old)) who.now wanted.entry.update.now
         (change_of (entries_of (D.rows dir.old)) who.now wanted.entry.update.now))
         out.old.replies.items out.new.replies.items (entries_of (D.rows dir.new)) who.now) }
@@ -369,10 +371,7 @@ fn operate<D: Dir>(
             answer_extended(alloc, who, message.id, name, value, &mut out.replies)
         }
         Request::Update(update) => {
-            let wanted = Wanted {
-                id: message.id,
-                update,
-            };
+            let wanted = Wanted { message, update };
             put_change(alloc, dir, who, wanted, allowed.terms.keeps, out)
         }
     }

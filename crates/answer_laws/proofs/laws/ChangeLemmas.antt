@@ -1,5 +1,5 @@
 -- What messages whose changes are granted are answered.
-use Rattle.std.proofs.Common.{◌≡◌, Bool, false, List, [], ◌∷◌, Some, refl, ap, ◌∙◌}
+use Rattle.std.proofs.Common.{◌≡◌, Bool, false, List, [], ◌∷◌, Some, refl, ap, sym, ◌∙◌}
 use Rattle.dir_tree.specs.Entry.{EntryInformation}
 use Rattle.dir_tree.specs.tree.Trees.{put_in, taken_out}
 use Rattle.acdf_filters.specs.declared.asking.Requester.{Requester}
@@ -25,7 +25,7 @@ use Rattle.change_laws.specs.ChangeGranting.{MayModify, MayRename}
 use Rattle.read_model.specs.Views.{result_of}
 use Rattle.read_model.specs.SearchReplies.{replies_octets}
 use Rattle.session_hub.specs.Controls.{is_refused}
-use Rattle.session_hub.specs.Answering.{Operated, ending_for, asking, change_of, changing, operated, answered, is_unbind, sent_octets, kept_changes, answer_read}
+use Rattle.session_hub.specs.Answering.{Operated, ending_for, asking, change_of, recorded, changing, operated, answered, is_unbind, sent_octets, kept_changes, answer_read}
 use Rattle.answer_laws.specs.Asked.{AsksFor}
 use Rattle.answer_laws.specs.Made.{IsMade}
 
@@ -37,7 +37,7 @@ accepted-operated entries who controls given asked e accepted = rw (accepted, e)
 -- the answer to a message whose change nothing refuses
 answer-made : (keeps : Bool) (entries : List EntryInformation) (who : Requester) (message : Message) (asked : Update) (response : Ending)
     (left : List EntryInformation) → AsksFor message (request.Update asked) → ending_for asked ≡ response
-    → change_of entries who asked ≡ Made left → IsMade keeps who message asked response left (answer_read keeps entries who (Some message))
+    → change_of entries who asked ≡ Made left → IsMade keeps who message response left (answer_read keeps entries who (Some message))
 answer-made keeps entries who message asked response left asks responds is =
     let same : answered entries who message.controls message.request ≡ changing entries who asked (Made left) =
     accepted-operated entries who message.controls message.request (request.Update asked) asks.asks asks.accepted ∙ ap (changing entries who asked) is in
@@ -45,7 +45,9 @@ answer-made keeps entries who message asked response left asks responds is =
       replies =
           ap (λ (came : Operated). sent_octets message.id came.replies came.cookie) same
           ∙ ap (λ ends. replies_octets message.id (reply.Ended ends (result_of code.Success) ∷ [])) responds;
-      changes = ap (λ (came : Operated). kept_changes keeps came.changes) same;
+      changes =
+          ap (λ (came : Operated). kept_changes keeps came.changes) same
+          ∙ ap (λ given. kept_changes keeps (recorded (Made left) given)) (sym asks.asks);
       tree = ap (λ (came : Operated). came.entries) same;
       who_stays = ap (λ (came : Operated). came.who) same;
       stays = ap is_unbind asks.asks;
@@ -60,7 +62,7 @@ Adds =
 
 pub answer_read-added : Adds → (keeps : Bool) (entries : List EntryInformation) (who : Requester) (message : Message) (add : AddRequest) (entry : EntryInformation)
     → AsksFor message (request.Update (update.Add add)) → MayAdd entries who add entry
-    → IsMade keeps who message (update.Add add) ending.Add (put_in entry entries) (answer_read keeps entries who (Some message))
+    → IsMade keeps who message ending.Add (put_in entry entries) (answer_read keeps entries who (Some message))
 answer_read-added adds keeps entries who message add entry asks may =
     answer-made keeps entries who message (update.Add add) ending.Add _ asks refl (adds entries who add entry may)
 
@@ -71,7 +73,7 @@ Deletes =
 
 pub answer_read-deleted : Deletes → (keeps : Bool) (entries : List EntryInformation) (who : Requester) (message : Message) (delete : DeleteRequest)
     (target : EntryInformation) → AsksFor message (request.Update (update.Delete delete)) → MayDelete entries who delete target
-    → IsMade keeps who message (update.Delete delete) ending.Delete (taken_out target.name entries) (answer_read keeps entries who (Some message))
+    → IsMade keeps who message ending.Delete (taken_out target.name entries) (answer_read keeps entries who (Some message))
 answer_read-deleted deletes keeps entries who message delete target asks may =
     answer-made keeps entries who message (update.Delete delete) ending.Delete _ asks refl
     (deletes entries who delete target may)
@@ -83,7 +85,7 @@ Modifies =
 
 pub answer_read-modified : Modifies → (keeps : Bool) (entries : List EntryInformation) (who : Requester) (message : Message) (modify : ModifyRequest)
     (target left : EntryInformation) → AsksFor message (request.Update (update.Modify modify)) → MayModify entries who modify target left
-    → IsMade keeps who message (update.Modify modify) ending.Modify (put_in left (taken_out target.name entries)) (answer_read keeps entries who (Some message))
+    → IsMade keeps who message ending.Modify (put_in left (taken_out target.name entries)) (answer_read keeps entries who (Some message))
 answer_read-modified modifies keeps entries who message modify target left asks may =
     answer-made keeps entries who message (update.Modify modify) ending.Modify _ asks refl
     (modifies entries who modify target left may)
@@ -95,7 +97,7 @@ Renames =
 
 pub answer_read-renamed : Renames → (keeps : Bool) (entries : List EntryInformation) (who : Requester) (message : Message) (rename : RenameRequest)
     (target entry : EntryInformation) → AsksFor message (request.Update (update.Rename rename)) → MayRename entries who rename target entry
-    → IsMade keeps who message (update.Rename rename) ending.Rename (put_in entry (taken_out target.name entries)) (answer_read keeps entries who (Some message))
+    → IsMade keeps who message ending.Rename (put_in entry (taken_out target.name entries)) (answer_read keeps entries who (Some message))
 answer_read-renamed renames keeps entries who message rename target entry asks may =
     answer-made keeps entries who message (update.Rename rename) ending.Rename _ asks refl
     (renames entries who rename target entry may)
