@@ -14,6 +14,7 @@ use Rattle.ldap_msg.specs.declared.kinds.Auth.TheVariants.{Simple}
 use Rattle.ldap_msg.specs.declared.kinds.Message.{Message}
 use Rattle.ldap_msg.specs.declared.kinds.Request.{Request}
 use Rattle.ldap_msg.specs.declared.kinds.Request.TheVariants as request
+use Rattle.ldap_msg.specs.declared.kinds.Update.TheVariants as update
 use Rattle.ldap_msg.specs.declared.kinds.SearchScope.TheVariants.{SingleLevel, WholeSubtree}
 use Rattle.ldap_msg.specs.declared.kinds.ModifyOperation.TheVariants.{Add, Delete, Replace}
 use Rattle.ldap_msg.specs.declared.kinds.Reply.TheVariants as reply
@@ -92,21 +93,21 @@ unfolding asks_of asks_in word_of taken_by first_bad bad_line ldif_on_literals
 compare = refl
 
 add : asked_in (codes "do: add" ∷ codes "cn: b" ∷ codes "cn: c" ∷ codes "sn: d" ∷ codes "cn: e" ∷ [])
-    ≡ one (request.Add (record { name = codes "o=a"; attributes = record { kind = codes "cn"; values = codes "b" ∷ codes "c" ∷ [] } ∷ record { kind = codes "sn"; values = codes "d" ∷ [] } ∷ record { kind = codes "cn"; values = codes "e" ∷ [] } ∷ [] }))
+    ≡ one (request.Update (update.Add (record { name = codes "o=a"; attributes = record { kind = codes "cn"; values = codes "b" ∷ codes "c" ∷ [] } ∷ record { kind = codes "sn"; values = codes "d" ∷ [] } ∷ record { kind = codes "cn"; values = codes "e" ∷ [] } ∷ [] })))
 unfolding asks_of asks_in word_of taken_by first_bad bad_line at_last attributes_of ldif_on_literals
 add = refl
 
 modify : asked_in (codes "do: modify" ∷ codes "replace: cn" ∷ codes "value: b" ∷ codes "value: c" ∷ codes "delete: sn" ∷ codes "add: 2.5.4.5" ∷ codes "value: d" ∷ [])
-    ≡ one (request.Modify (record { name = codes "o=a"; changes = record { operation = Replace; body = record { kind = codes "cn"; values = codes "b" ∷ codes "c" ∷ [] } } ∷ record { operation = Delete; body = record { kind = codes "sn"; values = [] } } ∷ record { operation = Add; body = record { kind = codes "2.5.4.5"; values = codes "d" ∷ [] } } ∷ [] }))
+    ≡ one (request.Update (update.Modify (record { name = codes "o=a"; changes = record { operation = Replace; body = record { kind = codes "cn"; values = codes "b" ∷ codes "c" ∷ [] } } ∷ record { operation = Delete; body = record { kind = codes "sn"; values = [] } } ∷ record { operation = Add; body = record { kind = codes "2.5.4.5"; values = codes "d" ∷ [] } } ∷ [] })))
 unfolding asks_of asks_in word_of taken_by first_bad bad_line at_last changes_of ldif_on_literals
 modify = refl
 
 rename : asked_in (codes "do: rename" ∷ codes "newrdn: o=b" ∷ codes "keep: TRUE" ∷ codes "newsuperior:" ∷ [])
-    ≡ one (request.Rename (record { name = codes "o=a"; new_rdn = codes "o=b"; delete_old = false; superior = Some [] }))
+    ≡ one (request.Update (update.Rename (record { name = codes "o=a"; new_rdn = codes "o=b"; delete_old = false; superior = Some [] })))
 unfolding asks_of asks_in word_of taken_by first_bad bad_line ldif_on_literals
 rename = refl
 
-delete : asked_in (codes "do: delete" ∷ []) ≡ one (request.Delete (record { name = codes "o=a" }))
+delete : asked_in (codes "do: delete" ∷ []) ≡ one (request.Update (update.Delete (record { name = codes "o=a" })))
 unfolding asks_of asks_in word_of taken_by first_bad bad_line ldif_on_literals
 delete = refl
 

@@ -6,6 +6,8 @@ use Rattle.ldap_msg.specs.declared.kinds.KindValues.{KindValues}
 use Rattle.ldap_msg.specs.declared.kinds.LdapResult.{LdapResult}
 use Rattle.ldap_msg.specs.declared.kinds.Reply.{Reply}
 use Rattle.ldap_msg.specs.declared.kinds.Reply.TheVariants as reply
+use Rattle.ldap_msg.specs.declared.operations.ResultCode.{ResultCode}
+use Rattle.ldap_msg.specs.operations.ResultCodes.{code_number}
 use Rattle.ldap_msg.specs.Replies.{reply_of}
 use Rattle.ldap_msg.specs.Streams.{whole}
 use Rattle.ldif_records.specs.writing.Written.{written_line}
@@ -46,8 +48,8 @@ value_text None = []
 value_text (Some value) = codes " value=" ++ one_line value
 
 -- the messageID and the code of a result
-abbrev pub heading : ℕ → ℕ → List ℕ
-heading id code = codes "# " ++ (decimal id ++ (codes " " ++ decimal code))
+abbrev pub heading : ℕ → ResultCode → List ℕ
+heading id code = codes "# " ++ (decimal id ++ (codes " " ++ decimal (code_number code)))
 
 -- a result: its heading, the matched name and a value
 unfoldable pub result_text : ℕ → LdapResult → Option (List ℕ) → List ℕ
@@ -55,14 +57,8 @@ result_text id result value = heading id result.code ++ (matched_text result.mat
 
 -- a reply with its messageID
 unfoldable pub reply_text : ℕ → Reply → List ℕ
-reply_text id (reply.Bind result) = result_text id result None
 reply_text id (reply.Entry name attributes) = entry_text name attributes
-reply_text id (reply.Done result) = result_text id result None
-reply_text id (reply.Modify result) = result_text id result None
-reply_text id (reply.Add result) = result_text id result None
-reply_text id (reply.Delete result) = result_text id result None
-reply_text id (reply.Rename result) = result_text id result None
-reply_text id (reply.Compare result) = result_text id result None
+reply_text id (reply.Ended ending result) = result_text id result None
 reply_text id (reply.Extended result name value) = result_text id result value
 
 -- the reply that a message is

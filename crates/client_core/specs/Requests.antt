@@ -7,6 +7,7 @@ use Rattle.ldap_msg.specs.declared.kinds.Control.{Control}
 use Rattle.ldap_msg.specs.declared.kinds.Message.{Message}
 use Rattle.ldap_msg.specs.declared.kinds.Request.{Request}
 use Rattle.ldap_msg.specs.declared.kinds.Request.TheVariants as request
+use Rattle.ldap_msg.specs.declared.kinds.Update.TheVariants as update
 use Rattle.ldif_records.specs.declared.types.RecordLine.{RecordLine}
 use Rattle.client_core.specs.declared.words.Word.{Word}
 use Rattle.client_core.specs.declared.words.Word.TheVariants as word
@@ -34,7 +35,7 @@ compare_of name (line ∷ lines) = asserted_by name line
 
 -- a delete (4.8)
 abbrev pub delete_of : List ℕ → Request
-delete_of name = request.Delete (record { name = name })
+delete_of name = request.Update (update.Delete (record { name = name }))
 
 -- the question who the session is (RFC 4532)
 abbrev pub who_am_i : Request
@@ -45,14 +46,14 @@ abbrev pub request_of : Word → List ℕ → List RecordLine → Request
 request_of word.Bind name lines = request.Bind (record { version = 3; name = name; auth = Simple (text_of (codes "password") lines) })
 request_of word.Search name lines = request.Search (search_of name lines)
 request_of word.Compare name lines = request.Compare (compare_of name lines)
-request_of word.Add name lines = request.Add (record { name = name; attributes = attributes_of lines })
-request_of word.Modify name lines = request.Modify (record { name = name; changes = changes_of lines })
-request_of word.Rename name lines = request.Rename (record {
+request_of word.Add name lines = request.Update (update.Add (record { name = name; attributes = attributes_of lines }))
+request_of word.Modify name lines = request.Update (update.Modify (record { name = name; changes = changes_of lines }))
+request_of word.Rename name lines = request.Update (update.Rename (record {
   name = name;
   new_rdn = text_of (codes "newrdn") lines;
   delete_old = not (is_some (value_of (codes "keep") lines));
   superior = value_of (codes "newsuperior") lines;
-})
+}))
 request_of word.Delete name lines = delete_of name
 request_of word.WhoAmI name lines = who_am_i
 request_of word.Unbind name lines = request.Unbind

@@ -8,7 +8,7 @@ ghost use Rattle.client_core.specs.ReplyTexts.{within_line, one_line, value_line
 
 use crate::types::NoMemory;
 use ldap_msg::plain_values::Octets;
-use ldap_msg::{Frame, KindValues, LdapResult, ReadFault, Reply, frame, read_reply};
+use ldap_msg::{Frame, KindValues, LdapResult, ReadFault, Reply, ResultCode, frame, read_reply};
 use ldif_records::put_line;
 use std::alloc::{AllocError, Global};
 
@@ -89,11 +89,12 @@ fn put_entry(out: &mut Vec<u8>, name: &[u8], attributes: &[KindValues]) -> Resul
 }
 
 // Appends a messageID and a result code.
-fn put_heading(out: &mut Vec<u8>, id: u32, code: u8) -> Result<(), NoMemory>
+fn put_heading(out: &mut Vec<u8>, id: u32, code: ResultCode) -> Result<(), NoMemory>
     ensures ok { OnOk result (out.new.items ≡ out.old.items ++ heading id code) }
 {
     let alloc = *out.allocator();
-    let text = format!(in alloc; "# {id} {code}")?;
+    let number = code.number();
+    let text = format!(in alloc; "# {id} {number}")?;
     out.extend_from_slice(text.as_bytes())
 }
 
@@ -144,14 +145,8 @@ fn put_reply(out: &mut Vec<u8>, id: u32, reply: &Reply) -> Result<(), NoMemory>
 {
     match reply {
         Reply::Entry(name, attributes) => put_entry(out, name.as_slice(), attributes.as_slice()),
+        Reply::Ended(_, ended) => put_result(out, id, ended, &None),
         Reply::Extended(ended, _, value) => put_result(out, id, ended, value),
-        Reply::Bind(ended)
-        | Reply::Done(ended)
-        | Reply::Modify(ended)
-        | Reply::Add(ended)
-        | Reply::Delete(ended)
-        | Reply::Rename(ended)
-        | Reply::Compare(ended) => put_result(out, id, ended, &None),
     }
 }
 

@@ -15,7 +15,7 @@ use crate::words::Word;
 use ldap_msg::plain_values::OneOrMany;
 use ldap_msg::{
     AddRequest, Auth, BindRequest, CompareRequest, Control, DeleteRequest, Message, ModifyRequest,
-    RenameRequest, Request, SearchRequest,
+    RenameRequest, Request, SearchRequest, Update,
 };
 use ldif_records::RecordLine;
 use std::alloc::Global;
@@ -80,7 +80,10 @@ fn add(alloc: Global, name: &[u8], lines: &[RecordLine]) -> Result<Request, NoMe
 {
     let name = octets_of(alloc, name)?;
     let attributes = attributes_of(alloc, lines)?;
-    Ok(Request::Add(AddRequest { name, attributes }))
+    Ok(Request::Update(Update::Add(AddRequest {
+        name,
+        attributes,
+    })))
 }
 
 // A modify.
@@ -89,7 +92,10 @@ fn modify(alloc: Global, name: &[u8], lines: &[RecordLine]) -> Result<Request, N
 {
     let name = octets_of(alloc, name)?;
     let changes = changes_of(alloc, lines)?;
-    Ok(Request::Modify(ModifyRequest { name, changes }))
+    Ok(Request::Update(Update::Modify(ModifyRequest {
+        name,
+        changes,
+    })))
 }
 
 // A rename.
@@ -99,12 +105,12 @@ fn rename(alloc: Global, name: &[u8], lines: &[RecordLine]) -> Result<Request, N
     let name = octets_of(alloc, name)?;
     let new_rdn = octets_of(alloc, text_of(b"newrdn", lines))?;
     let superior = octets_at(alloc, b"newsuperior", lines)?;
-    Ok(Request::Rename(RenameRequest {
+    Ok(Request::Update(Update::Rename(RenameRequest {
         name,
         new_rdn,
         delete_old: value_of(b"keep", lines).is_none(),
         superior,
-    }))
+    })))
 }
 
 // A delete.
@@ -112,7 +118,7 @@ fn delete(alloc: Global, name: &[u8]) -> Result<Request, NoMemory>
     ensures ok { IfOk result (λ request. request ≡ delete_of name.now) }
 {
     let name = octets_of(alloc, name)?;
-    Ok(Request::Delete(DeleteRequest { name }))
+    Ok(Request::Update(Update::Delete(DeleteRequest { name })))
 }
 
 // The question who the session is (RFC 4532).

@@ -18,7 +18,7 @@ pub use dir::{Addition, Dir};
 pub use entries::{NumberedEntry, find_entry, is_suffix};
 pub use hiding::{absent, hidden, no_such_object};
 pub use newcomer::Newcomer;
-pub use results::{result_numbered, result_of, result_with};
+pub use results::{result_of, result_with};
 pub use targets::not_leaf;
 pub use texts::{copied, printed, read_named};
 pub use value_index;

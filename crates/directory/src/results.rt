@@ -1,6 +1,6 @@
 //! Results of operations (RFC 4511 4.1.9).
 
-ghost use Rattle.std.specs.Prelude.{◌≡◌, [], IfOk};
+ghost use Rattle.std.specs.Prelude.{◌≡◌, IfOk};
 ghost use Rattle.read_model.specs.Views.{result_with, result_of};
 
 use crate::texts::printed;
@@ -10,21 +10,14 @@ use ldap_msg::plain_values::Octets;
 use ldap_msg::{LdapResult, ResultCode};
 use std::alloc::Global;
 
-/// The result with the number of a code and no name.
-pub fn result_numbered(alloc: Global, number: u8) -> LdapResult
-    ensures exact { result ≡ record { code = number; matched = [] } }
-{
-    LdapResult {
-        code: number,
-        matched: Octets::from_vec(Vec::new(alloc)),
-    }
-}
-
 /// The result with the code and no name.
 pub fn result_of(alloc: Global, code: ResultCode) -> LdapResult
     ensures exact { result ≡ result_of code }
 {
-    result_numbered(alloc, code.number())
+    LdapResult {
+        code,
+        matched: Octets::from_vec(Vec::new(alloc)),
+    }
 }
 
 /// The result with the code and the name; the error comes where memory is wanted.
@@ -32,7 +25,7 @@ pub fn result_with(alloc: Global, code: ResultCode, name: &Dn) -> Result<LdapRes
     ensures ok { IfOk result (λ ended. ended ≡ result_with code name.now) }
 {
     Ok(LdapResult {
-        code: code.number(),
+        code,
         matched: printed(alloc, name)?,
     })
 }

@@ -11,10 +11,7 @@ abbrev pub is_bind : Request → Bool
 is_bind (request.Bind bind) = true
 is_bind request.Unbind = false
 is_bind (request.Search search) = false
-is_bind (request.Modify modify) = false
-is_bind (request.Add add) = false
-is_bind (request.Delete delete) = false
-is_bind (request.Rename rename) = false
+is_bind (request.Update update) = false
 is_bind (request.Compare compare) = false
 is_bind (request.Abandon id) = false
 is_bind (request.Extended name value) = false

@@ -5,6 +5,7 @@ use Rattle.ber_layout.specs.Spellings.{element_octets}
 use Rattle.ldap_msg.specs.declared.kinds.Control.{Control}
 use Rattle.ldap_msg.specs.declared.kinds.Reply.{Reply}
 use Rattle.ldap_msg.specs.declared.kinds.Reply.TheVariants as reply
+use Rattle.ldap_msg.specs.declared.operations.Ending.TheVariants as ending
 use Rattle.ldap_msg.specs.declared.operations.ResultCode.TheVariants as code
 use Rattle.ldap_msg.specs.operations.Operations.{response_tag}
 use Rattle.ldap_msg.specs.Controls.{controls_parts}
@@ -14,7 +15,7 @@ use Rattle.page_core.specs.Values.{page_kind, page_octets}
 
 -- the search is done
 abbrev pub done : Reply
-done = reply.Done (result_of code.Success)
+done = reply.Ended ending.Done (result_of code.Success)
 
 -- the control at the end of a page: not critical, with the size 0, which says nothing of how many entries there are
 abbrev pub end_control : List ℕ → Control

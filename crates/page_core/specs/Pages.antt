@@ -9,7 +9,9 @@ use Rattle.ldap_msg.specs.declared.operations.ResultCode.{ResultCode}
 use Rattle.ldap_msg.specs.declared.operations.ResultCode.TheVariants as code
 use Rattle.ldap_msg.specs.declared.kinds.SearchRequest.{SearchRequest}
 use Rattle.ldap_msg.specs.declared.kinds.Reply.{Reply}
+use Rattle.ldap_msg.specs.operations.ResultCodes.{code_number}
 use Rattle.ldap_msg.specs.declared.kinds.Reply.TheVariants as reply
+use Rattle.ldap_msg.specs.declared.operations.Ending.TheVariants as ending
 use Rattle.read_model.specs.Views.{View, result_of}
 use Rattle.read_model.specs.Selecting.{selected}
 use Rattle.read_model.specs.Choosing.{sent_entry}
@@ -38,7 +40,7 @@ unpaged replies = record { replies = replies; cookie = None }
 
 -- a search that ends at once with this code
 abbrev pub ended : ResultCode → Paged
-ended code = unpaged (reply.Done (result_of code) ∷ [])
+ended code = unpaged (reply.Ended ending.Done (result_of code) ∷ [])
 
 -- ---- the entries of a page
 
@@ -65,14 +67,14 @@ unlimited request = record request { size = 0 }
 
 -- the search is done with the code success
 abbrev pub is_success : Reply → Bool
-is_success (reply.Bind result) = false
 is_success (reply.Entry name attributes) = false
-is_success (reply.Done result) = result.code == 0
-is_success (reply.Modify result) = false
-is_success (reply.Add result) = false
-is_success (reply.Delete result) = false
-is_success (reply.Rename result) = false
-is_success (reply.Compare result) = false
+is_success (reply.Ended ending.Bind result) = false
+is_success (reply.Ended ending.Done result) = code_number result.code == code_number code.Success
+is_success (reply.Ended ending.Modify result) = false
+is_success (reply.Ended ending.Add result) = false
+is_success (reply.Ended ending.Delete result) = false
+is_success (reply.Ended ending.Rename result) = false
+is_success (reply.Ended ending.Compare result) = false
 is_success (reply.Extended result name value) = false
 
 -- a page of the entries that are selected behind a name, where the whole search succeeds, and otherwise its answer

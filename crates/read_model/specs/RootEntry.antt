@@ -15,6 +15,7 @@ use Rattle.ldap_msg.specs.declared.kinds.SearchRequest.{SearchRequest}
 use Rattle.ldap_msg.specs.Search.{is_base}
 use Rattle.ldap_msg.specs.declared.kinds.Reply.{Reply}
 use Rattle.ldap_msg.specs.declared.kinds.Reply.TheVariants as reply
+use Rattle.ldap_msg.specs.declared.operations.Ending.TheVariants as ending
 use Rattle.read_model.specs.Views.{Row, View, result_of}
 
 -- an attribute of the root DSE
@@ -86,5 +87,5 @@ finds_root request subentries = asks_for_root request.filter && not (asks_subent
 unfoldable pub root_replies : View → SearchRequest → Option Bool → List Reply
 root_replies view request subentries =
     if is_base request.scope
-    then (if finds_root request subentries then root_entry view request ∷ [] else []) ++ reply.Done (result_of code.Success) ∷ []
-    else reply.Done (result_of code.NoSuchObject) ∷ []
+    then (if finds_root request subentries then root_entry view request ∷ [] else []) ++ reply.Ended ending.Done (result_of code.Success) ∷ []
+    else reply.Ended ending.Done (result_of code.NoSuchObject) ∷ []

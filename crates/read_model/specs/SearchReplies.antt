@@ -10,6 +10,7 @@ use Rattle.ldap_msg.specs.declared.kinds.LdapResult.{LdapResult}
 use Rattle.ldap_msg.specs.declared.kinds.SearchRequest.{SearchRequest}
 use Rattle.ldap_msg.specs.declared.kinds.Reply.{Reply}
 use Rattle.ldap_msg.specs.declared.kinds.Reply.TheVariants as reply
+use Rattle.ldap_msg.specs.declared.operations.Ending.TheVariants as ending
 use Rattle.ldap_msg.specs.Replies.{reply_octets}
 use Rattle.read_model.specs.Views.{View, has_name, discloses, hidden, no_such_object, result_of}
 use Rattle.read_model.specs.Selecting.{selected}
@@ -30,20 +31,20 @@ nothing_found view base = if discloses view base then result_of code.Success els
 
 -- the entries that are selected are sent, up to the limit
 unfoldable pub found_replies : View → SearchRequest → RdnSequence → View → List Reply
-found_replies view request base [] = reply.Done (nothing_found view base) ∷ []
+found_replies view request base [] = reply.Ended ending.Done (nothing_found view base) ∷ []
 found_replies view request base (first ∷ rest) =
     map (sent_entry request.selection request.kinds_only) (within_limit request.size (first ∷ rest))
-    ++ reply.Done (result_of (limit_code request.size (first ∷ rest))) ∷ []
+    ++ reply.Ended ending.Done (result_of (limit_code request.size (first ∷ rest))) ∷ []
 
 -- a search of a base that is a name
 unfoldable pub replies_at : View → SearchRequest → Option Bool → RdnSequence → List Reply
 replies_at view request subentries base =
     if list_any (has_name base) view then found_replies view request base (selected view request subentries base)
-    else reply.Done (hidden view base) ∷ []
+    else reply.Ended ending.Done (hidden view base) ∷ []
 
 -- a search, by what its base is
 abbrev pub replies_by : View → SearchRequest → Option Bool → Result RdnSequence BadName → List Reply
-replies_by view request subentries (Err bad) = reply.Done (result_of code.InvalidDnSyntax) ∷ []
+replies_by view request subentries (Err bad) = reply.Ended ending.Done (result_of code.InvalidDnSyntax) ∷ []
 replies_by view request subentries (Ok []) = root_replies view request subentries
 replies_by view request subentries (Ok (rdn ∷ rdns)) = replies_at view request subentries (rdn ∷ rdns)
 

@@ -15,7 +15,6 @@ use Rattle.acdf_filters.specs.Granted.{granted}
 use Rattle.ldap_msg.specs.declared.operations.ResultCode.{ResultCode}
 use Rattle.ldap_msg.specs.declared.operations.ResultCode.TheVariants as code
 use Rattle.ldap_msg.specs.declared.kinds.LdapResult.{LdapResult}
-use Rattle.ldap_msg.specs.operations.ResultCodes.{code_number}
 
 -- an entry, and what is allowed on it
 pub record Row : Type 0 where
@@ -50,11 +49,11 @@ matched_name view name =
 
 -- a result with this code and this name
 abbrev pub result_with : ResultCode → RdnSequence → LdapResult
-result_with code name = record { code = code_number code; matched = print_name name }
+result_with code name = record { code = code; matched = print_name name }
 
 -- a result with this code and no name
 abbrev pub result_of : ResultCode → LdapResult
-result_of code = record { code = code_number code; matched = [] }
+result_of code = record { code = code; matched = [] }
 
 -- noSuchObject, with the name of the nearest entry that may be known of
 abbrev pub no_such_object : View → RdnSequence → LdapResult

@@ -1,34 +1,29 @@
 -- How many entries were sent among replies, and how many replies say noSuchObject (RFC 4511 4.1.9, 4.5.2).
 use Rattle.std.specs.Prelude.{ℕ, Bool, true, false, ◌==◌, List, count_by}
 use Rattle.std.specs.Option.{option_map_or}
+use Rattle.ldap_msg.specs.declared.kinds.LdapResult.{LdapResult}
 use Rattle.ldap_msg.specs.declared.kinds.Reply.{Reply}
 use Rattle.ldap_msg.specs.declared.kinds.Reply.TheVariants as reply
+use Rattle.ldap_msg.specs.declared.operations.ResultCode.TheVariants as code
+use Rattle.ldap_msg.specs.operations.ResultCodes.{code_number}
 use Rattle.ldap_msg.specs.Streams.{whole, whole_of}
 use Rattle.ldap_msg.specs.Replies.{reply_of}
 
 -- the reply is an entry of a search
 abbrev pub is_entry : Reply → Bool
-is_entry (reply.Bind result) = false
 is_entry (reply.Entry name attributes) = true
-is_entry (reply.Done result) = false
-is_entry (reply.Modify result) = false
-is_entry (reply.Add result) = false
-is_entry (reply.Delete result) = false
-is_entry (reply.Rename result) = false
-is_entry (reply.Compare result) = false
+is_entry (reply.Ended ending result) = false
 is_entry (reply.Extended result name value) = false
 
--- it is a result with the code noSuchObject
+-- the result has the code noSuchObject
+abbrev pub is_absent : LdapResult → Bool
+is_absent result = code_number result.code == code_number code.NoSuchObject
+
+-- the reply is such a result
 abbrev pub is_hidden : Reply → Bool
-is_hidden (reply.Bind result) = result.code == 32
 is_hidden (reply.Entry name attributes) = false
-is_hidden (reply.Done result) = result.code == 32
-is_hidden (reply.Modify result) = result.code == 32
-is_hidden (reply.Add result) = result.code == 32
-is_hidden (reply.Delete result) = result.code == 32
-is_hidden (reply.Rename result) = result.code == 32
-is_hidden (reply.Compare result) = result.code == 32
-is_hidden (reply.Extended result name value) = result.code == 32
+is_hidden (reply.Ended ending result) = is_absent result
+is_hidden (reply.Extended result name value) = is_absent result
 
 -- the octets of one message are those of such a reply
 abbrev pub says_such : (Reply → Bool) → List ℕ → Bool

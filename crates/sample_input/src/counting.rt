@@ -1,9 +1,9 @@
 //! What is counted of replies.
 
 ghost use Rattle.std.specs.Prelude.{◌≡◌, ◌+◌, ◌<◌, IfOk, cond};
-ghost use Rattle.sample_input.specs.Counting.{is_entry, is_hidden, says_such, found_in, hidden_in};
+ghost use Rattle.sample_input.specs.Counting.{is_entry, is_absent, is_hidden, says_such, found_in, hidden_in};
 
-use ldap_msg::{Frame, LdapResult, ReadFault, Reply, frame, read_reply};
+use ldap_msg::{Frame, LdapResult, ReadFault, Reply, ResultCode, frame, read_reply};
 use std::alloc::{AllocError, Global};
 
 /// How many of the replies are entries, and how many say noSuchObject (RFC 4511 4.1.9).
@@ -26,19 +26,18 @@ fn is_entry(reply: &Reply) -> bool
     matches!(reply, Reply::Entry(_, _))
 }
 
+fn is_absent(ended: &LdapResult) -> bool
+    ensures { result ≡ is_absent ended.now }
+{
+    ended.code.number() == ResultCode::NoSuchObject.number()
+}
+
 fn is_hidden(reply: &Reply) -> bool
     ensures { result ≡ is_hidden reply.now }
 {
     match reply {
         Reply::Entry(_, _) => false,
-        Reply::Bind(result)
-        | Reply::Done(result)
-        | Reply::Modify(result)
-        | Reply::Add(result)
-        | Reply::Delete(result)
-        | Reply::Rename(result)
-        | Reply::Compare(result)
-        | Reply::Extended(result, _, _) => result.code == 32,
+        Reply::Ended(_, ended) | Reply::Extended(ended, _, _) => is_absent(ended),
     }
 }
 

@@ -23,6 +23,7 @@ use Rattle.ldap_msg.specs.declared.kinds.SearchScope.TheVariants.{WholeSubtree}
 use Rattle.ldap_msg.specs.declared.kinds.SearchRequest.{SearchRequest}
 use Rattle.ldap_msg.specs.declared.kinds.Reply.{Reply}
 use Rattle.ldap_msg.specs.declared.kinds.Reply.TheVariants as reply
+use Rattle.ldap_msg.specs.declared.operations.Ending.TheVariants as ending
 use Rattle.read_model.specs.Views.{Row, view_of, matched_name, hidden, result_of, result_with}
 use Rattle.read_model.specs.Selecting.{is_selected, selected}
 use Rattle.read_model.specs.SearchReplies.{found_replies, replies_at, search_replies}
@@ -139,7 +140,7 @@ abbrev asked : SearchRequest
 asked = record { base = []; scope = WholeSubtree; size = 0; kinds_only = false; filter = Present (codes "objectClass"); selection = [] }
 
 abbrev refusal : List Reply
-refusal = reply.Done (result_with code.NoSuchObject suffix) ∷ []
+refusal = reply.Ended ending.Done (result_with code.NoSuchObject suffix) ∷ []
 
 a_hidden_base : replies_at (allowed suffix ∷ closed secret ∷ []) asked None secret ≡ refusal
 unfolding name_cmp is_same is_prefix_of matched_name hidden is_selected selected found_replies replies_at has_class is_subentry
@@ -151,6 +152,6 @@ an_absent_base = refl
 
 -- a base that may be known of is told from an absent one: twins show none
 a_shown_base : replies_at (allowed suffix ∷ allowed secret ∷ []) asked (Some true) secret
-    ≡ reply.Done (result_of code.Success) ∷ []
+    ≡ reply.Ended ending.Done (result_of code.Success) ∷ []
 unfolding name_cmp is_same is_prefix_of matched_name hidden is_selected selected found_replies replies_at has_class is_subentry
 a_shown_base = refl

@@ -12,6 +12,7 @@ ghost use Rattle.acdf_filters.specs.declared.asking.Requester.{Requester};
 ghost use Rattle.ldap_msg.specs.declared.kinds.SearchRequest.{SearchRequest};
 ghost use Rattle.ldap_msg.specs.declared.kinds.CompareRequest.{CompareRequest};
 ghost use Rattle.ldap_msg.specs.declared.kinds.Reply.TheVariants as reply;
+ghost use Rattle.ldap_msg.specs.declared.operations.Ending.TheVariants as ending;
 ghost use Rattle.read_model.specs.Views.{view_of, matched_name, hidden, no_such_object};
 ghost use Rattle.read_model.specs.Selecting.{selected};
 ghost use Rattle.read_model.specs.SearchReplies.{replies_at, search_replies};
@@ -62,7 +63,7 @@ pub fn an_unseen_name_is_answered_as_an_absent_one()
     ensures search { (who : Requester) (top : RdnSequence) (entries : List EntryInformation)
         → IsUnseen who top entries → (request : SearchRequest) (subentries : Option Bool) (base : RdnSequence)
         → is_prefix_of top base ≡ true → replies_at (view_of entries who) request subentries base
-        ≡ reply.Done (no_such_object (view_of entries who) base) ∷ [] }
+        ≡ reply.Ended ending.Done (no_such_object (view_of entries who) base) ∷ [] }
     ensures hidden { (who : Requester) (top : RdnSequence) (entries : List EntryInformation)
         → IsUnseen who top entries → (name : RdnSequence) → is_prefix_of top name ≡ true
         → hidden (view_of entries who) name ≡ no_such_object (view_of entries who) name }

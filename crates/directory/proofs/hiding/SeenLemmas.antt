@@ -91,7 +91,7 @@ unfolding print_name print_by
 print-root = refl
 
 result-root : result_of code.NoSuchObject ≡ result_with code.NoSuchObject []
-result-root = ap (λ (text : List ℕ). record { code = 32; matched = text }) (sym print-root)
+result-root = ap (λ (text : List ℕ). record { code = code.NoSuchObject; matched = text }) (sym print-root)
 
 -- noSuchObject, by the entry that is matched
 pub no_such_object-found : (rows : List Numbered) (who : Requester) (name : RdnSequence) (entry : EntryInformation) → Some entry ≡ decision.matched (entries_of rows) who name

@@ -7,6 +7,7 @@ use Rattle.ldap_msg.specs.declared.operations.ResultCode.TheVariants as code
 use Rattle.ldap_msg.specs.declared.kinds.SearchRequest.{SearchRequest}
 use Rattle.ldap_msg.specs.declared.kinds.Reply.{Reply}
 use Rattle.ldap_msg.specs.declared.kinds.Reply.TheVariants as reply
+use Rattle.ldap_msg.specs.declared.operations.Ending.TheVariants as ending
 use Rattle.read_model.specs.Views.{View, has_name, discloses, hidden, no_such_object, result_of}
 use Rattle.read_model.specs.Selecting.{selected}
 use Rattle.read_model.specs.Choosing.{sent_entry}
@@ -20,7 +21,7 @@ abbrev all_sent : SearchRequest → View → List Reply
 all_sent request rows = map (sent_entry request.selection request.kinds_only) rows ++ done ∷ []
 
 -- a search of which nothing may be known does not succeed
-hidden_fails : (view : View) (base : RdnSequence) → list_any is_success (reply.Done (hidden view base) ∷ []) ≡ false
+hidden_fails : (view : View) (base : RdnSequence) → list_any is_success (reply.Ended ending.Done (hidden view base) ∷ []) ≡ false
 unfolding hidden
 hidden_fails view base = elim (cases_Bool (discloses view base)) [
   | inl e ↦ rw e refl
@@ -29,8 +30,8 @@ hidden_fails view base = elim (cases_Bool (discloses view base)) [
 
 -- one that selects nothing and succeeds is done
 nothing_succeeds : (view : View) (base : RdnSequence) (known : Bool)
-    → list_any is_success (reply.Done (cond known (result_of code.Success) (no_such_object view base)) ∷ []) ≡ true
-    → reply.Done (cond known (result_of code.Success) (no_such_object view base)) ∷ [] ≡ done ∷ []
+    → list_any is_success (reply.Ended ending.Done (cond known (result_of code.Success) (no_such_object view base)) ∷ []) ≡ true
+    → reply.Ended ending.Done (cond known (result_of code.Success) (no_such_object view base)) ∷ [] ≡ done ∷ []
 nothing_succeeds view base true e = refl
 nothing_succeeds view base false e = absurd cc
 
@@ -41,15 +42,15 @@ unfolding found_replies
 found_all view request base [] unlimited succeeds = nothing_succeeds view base (discloses view base) succeeds
 found_all view request base (row ∷ rows) unlimited succeeds =
     ap (λ (limit : ℕ). map (sent_entry request.selection request.kinds_only)
-    (within_limit limit (row ∷ rows)) ++ reply.Done (result_of (limit_code limit (row ∷ rows))) ∷ [])
+    (within_limit limit (row ∷ rows)) ++ reply.Ended ending.Done (result_of (limit_code limit (row ∷ rows))) ∷ [])
     unlimited
 
 at_all : (view : View) (request : SearchRequest) (subentries : Option Bool) (base : RdnSequence) (is_there : Bool)
     → request.size ≡ 0
     → list_any is_success (cond is_there (found_replies view request base (selected view request subentries base))
-    (reply.Done (hidden view base) ∷ [])) ≡ true
+    (reply.Ended ending.Done (hidden view base) ∷ [])) ≡ true
     → cond is_there (found_replies view request base (selected view request subentries base))
-    (reply.Done (hidden view base) ∷ [])
+    (reply.Ended ending.Done (hidden view base) ∷ [])
     ≡ all_sent request (selected view request subentries base)
 at_all view request subentries base true unlimited succeeds =
     found_all view request base (selected view request subentries base) unlimited succeeds

@@ -18,6 +18,7 @@ use Rattle.ldap_msg.specs.declared.kinds.SearchScope.TheVariants.{BaseObject, Si
 use Rattle.ldap_msg.specs.declared.kinds.SearchRequest.{SearchRequest}
 use Rattle.ldap_msg.specs.declared.kinds.Reply.{Reply}
 use Rattle.ldap_msg.specs.declared.kinds.Reply.TheVariants as reply
+use Rattle.ldap_msg.specs.declared.operations.Ending.TheVariants as ending
 use Rattle.read_model.specs.Views.{Row, View, has_name, is_disclosed, matched_name, result_of, result_with, no_such_object, discloses, hidden}
 use Rattle.read_model.specs.Selecting.{takes_in, is_seen, permits_of, is_selected, selected, is_shown, is_found}
 use Rattle.read_model.specs.RootEntry.{root_entry, root_replies}
@@ -62,7 +63,7 @@ found_replies-outside : (top : RdnSequence) (view : View) → AreHidden top view
     → (request : SearchRequest) (base : RdnSequence) (rows : View)
     → found_replies (rows_outside top view) request base rows ≡ found_replies view request base rows
 unfolding found_replies
-found_replies-outside top view h request base [] = ap (λ result. reply.Done result ∷ []) (nothing_found-outside top view h base)
+found_replies-outside top view h request base [] = ap (λ result. reply.Ended ending.Done result ∷ []) (nothing_found-outside top view h base)
 found_replies-outside top view h request base (row ∷ rows) = refl
 
 -- a base at or below the name takes in none of the others
@@ -110,14 +111,14 @@ hidden-within top view h name e = ap (λ known. refused known (matched_name view
 -- so the answer is the same, whether there is an entry of this name or not
 pub replies_at-within : (top : RdnSequence) (view : View) → AreHidden top view
     → (request : SearchRequest) (subentries : Option Bool) (base : RdnSequence) → is_prefix_of top base ≡ true
-    → replies_at view request subentries base ≡ reply.Done (no_such_object view base) ∷ []
+    → replies_at view request subentries base ≡ reply.Ended ending.Done (no_such_object view base) ∷ []
 unfolding replies_at found_replies
 replies_at-within top view h request subentries base e =
     let undisclosed = discloses_none top view h base e in
     both (list_any (has_name base) view) _ _ _
     (ap (found_replies view request base) (selected_none top view h request subentries base e)
-    ∙ ap (λ known. reply.Done (nothing known (matched_name view base)) ∷ []) undisclosed)
-    (ap (λ result. reply.Done result ∷ []) (hidden-within top view h base e))
+    ∙ ap (λ known. reply.Ended ending.Done (nothing known (matched_name view base)) ∷ []) undisclosed)
+    (ap (λ result. reply.Ended ending.Done result ∷ []) (hidden-within top view h base e))
   where
     both : (b : Bool) (x y z : List Reply) → x ≡ z → y ≡ z → (if b then x else y) ≡ z
     both true x y z e f = e
@@ -129,7 +130,7 @@ left_hidden top view h = all_filter (IsHiddenWithin top) (is_left top) view h
 
 -- what a search of a name is answered stays
 abbrev replies_where : Bool → List Reply → LdapResult → List Reply
-replies_where there found refusal = if there then found else reply.Done refusal ∷ []
+replies_where there found refusal = if there then found else reply.Ended ending.Done refusal ∷ []
 
 replies_at-outside : (top : RdnSequence) (view : View) → AreHidden top view
     → (request : SearchRequest) (subentries : Option Bool) (base : RdnSequence)
@@ -137,7 +138,7 @@ replies_at-outside : (top : RdnSequence) (view : View) → AreHidden top view
 unfolding replies_at
 replies_at-outside top view h request subentries base = elim (cases_Bool (is_prefix_of top base)) [
   | inl e ↦ replies_at-within top (rows_outside top view) (left_hidden top view h) request subentries base e
-      ∙ ap (λ name. reply.Done (result_with code.NoSuchObject name) ∷ []) (matched_name-outside top view h base)
+      ∙ ap (λ name. reply.Ended ending.Done (result_with code.NoSuchObject name) ∷ []) (matched_name-outside top view h base)
       ∙ sym (replies_at-within top view h request subentries base e)
   | inr e ↦ elsewhere e
 ]

@@ -19,6 +19,7 @@ use Rattle.acdf_filters.specs.declared.asking.Requester.{Requester}
 use Rattle.acdf_filters.proofs.Theorems.{named-without as named_in-without}
 use Rattle.ldap_msg.specs.declared.kinds.SearchRequest.{SearchRequest}
 use Rattle.ldap_msg.specs.declared.kinds.Reply.TheVariants as reply
+use Rattle.ldap_msg.specs.declared.operations.Ending.TheVariants as ending
 use Rattle.ldap_msg.specs.declared.kinds.CompareRequest.{CompareRequest}
 use Rattle.read_model.specs.Views.{View, view_of, matched_name, no_such_object, hidden}
 use Rattle.read_model.specs.Selecting.{selected}
@@ -104,7 +105,7 @@ hidden-twins who one other top h name =
 -- what is said of a name in an unseen subtree
 pub replies_at-unseen : (who : Requester) (top : RdnSequence) (entries : List EntryInformation) → IsUnseen who top entries
     → (request : SearchRequest) (subentries : Option Bool) (base : RdnSequence) → is_prefix_of top base ≡ true
-    → replies_at (view_of entries who) request subentries base ≡ reply.Done (no_such_object (view_of entries who) base) ∷ []
+    → replies_at (view_of entries who) request subentries base ≡ reply.Ended ending.Done (no_such_object (view_of entries who) base) ∷ []
 replies_at-unseen who top entries h request subentries base e =
     replies_at-within top (view_of entries who) (are_hidden who top entries h) request subentries base e
 
