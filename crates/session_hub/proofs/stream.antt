@@ -1,3 +1,5 @@
 pub mod StreamLemmas
 pub mod FirstLemmas
+pub mod FrameLemmas
+pub mod JoinLemmas
 mod FirstExamples
