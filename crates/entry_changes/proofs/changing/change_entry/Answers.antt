@@ -1,16 +1,11 @@
--- No change is of the name.
-use Rattle.std.proofs.Common.{◌≡◌, ◌∙◌, List, Ok, ap}
-use Rattle.dir_tree.specs.Entry.{EntryInformation}
-use Rattle.entry_changes.specs.Change.{Asker, Modification, changed_by}
-use Rattle.entry_changes.specs.Steps.{left_in}
-use Rattle.entry_changes.proofs.laws.GoodLemmas.{name-changed_by}
+-- The entry that the changes leave has its name.
+use Rattle.std.proofs.Common.{◌≡◌, Ok, arith}
+use Rattle.std.proofs.lemmas.Grind.{common_steps}
+use Rattle.entry_changes.specs.Change.{changed_by}
+use Rattle.entry_changes.proofs.changing.NameLemmas.{name-left}
 use Rattle.entry_changes.proofs.changing.change_entry.Goals as goal
-
-name-left : (asker : Asker) (entry left : EntryInformation) (changes : List Modification) → changed_by asker entry changes ≡ Ok left → left.name ≡ entry.name
-name-left asker entry left changes is = rw is at (name-changed_by asker entry changes)
 
 pub returns-in-Ok-clause-named : goal.returns-in-Ok-clause-named
 returns-in-Ok-clause-named g c =
-    ap (λ (entry : EntryInformation). entry.name) c.in_ok-into_entry-in-Ok.ensures.ok
-    ∙ name-left _ (left_in c.in_ok-left.left) (left_in c.apply_each.new.left) _ c.in-Ok.ensures.ok
-    ∙ ap (λ (entry : EntryInformation). entry.name) (c.in_ok-left.ensures.ok ∙ c.in_ok-copy.ensures.ok)
+    let made : changed_by (g.A.EntryAsker.asker c.args.asker.now) c.args.entry.now c.args.changes.items ≡ Ok c.in_ok-into_entry-in-Ok.field-0 = grind (arith, common_steps) in
+    name-left _ _ _ _ made
