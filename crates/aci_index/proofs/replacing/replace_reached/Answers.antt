@@ -14,7 +14,7 @@ put_anew-requires c =
     let reach = c.reach_at-reach.result in
     let from = c.top.result.0 in
     let new = put_entry number c.args.successor.entry (without number rows) in
-    let anew = c.replace_read.new.reader.anew in
+    let anew = c.put_successor_read.new.reader.anew in
     record {
       room =
           room-replaced number c.in_ok-old.old c.args.successor.entry rows c.entries_form_a_tree.ensures.exact done.exact.0.found done.exact.1
@@ -29,7 +29,7 @@ returns-clause-held c =
     let done = c.in_ok-old.ensures in
     let reach = c.reach_at-reach.result in
     let from = c.top.result.0 in
-    let anew = c.replace_read.new.reader.anew in
+    let anew = c.put_successor_read.new.reader.anew in
     let made = c.put_anew.new.held in
     let also = subst IsNumberedTree done.exact.0.left c.entries_form_a_tree-2.ensures.exact in
     subst (λ (new : List Numbered). IsHeld made new) (sym done.exact.0.left)
