@@ -1,5 +1,5 @@
 -- Trees whose entries have numbers, equal but for one number.
-use Rattle.std.proofs.Common.{◌≡◌, ℕ, ◌==◌, List, [], ◌∷◌, ap, sym, ◌∙◌, Option, Some, None}
+use Rattle.std.proofs.Common.{◌≡◌, ℕ, List, ap, sym, ◌∙◌, Option, Some, None}
 use Rattle.dir_tree.specs.Entry.{EntryInformation}
 use Rattle.dir_tree.specs.tree.Numbered.{Numbered, entries_of, entry_of, put_entry, without, IsNumberedTree}
 use Rattle.dir_tree.proofs.TreeTheorems.{put_row-taken, entries_of-put_row, without-put_row, entry_of-put, entry_of-gone, without-absent}

@@ -1,11 +1,11 @@
 -- The index stays that of the tree: where an entry is put in, where one is taken out, and where one takes another's place.
-use Rattle.std.proofs.Common.{◌≡◌, ℕ, List, [], None, Some, sym, subst, ◌∙◌, ap}
+use Rattle.std.proofs.Common.{◌≡◌, ℕ, List, None, Some, sym, subst, ◌∙◌}
 use Rattle.dir_tree.specs.Entry.{EntryInformation}
 use Rattle.dir_tree.specs.tree.Numbered.{Numbered, entry_of, put_entry, without}
 use Rattle.value_index.specs.declared.index.Posting.{Posting}
 use Rattle.value_index.specs.Hashes.{hashes_of}
 use Rattle.value_index.specs.Postings.{AllStay, OthersStay, IsAdded, IsDropped, IsIndexed, IsPosted}
-use Rattle.value_index.proofs.Theorems.{indexed-put_entry, indexed-without, indexed-replaced, indexed-same, IsAdded-posted, IsAdded-stay, IsDropped-others, IsDropped-kept}
+use Rattle.value_index.proofs.Theorems.{indexed-put_entry, indexed-replaced, indexed-same, IsAdded-posted, IsAdded-stay, IsDropped-others, IsDropped-kept}
 
 -- an entry was put in, and its number posted
 pub put-indexed : (id : ℕ) (entry : EntryInformation) (rows : List Numbered) (hashes : List ℕ) (old new : List Posting)
