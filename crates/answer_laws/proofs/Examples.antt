@@ -31,10 +31,12 @@ use Rattle.ldap_msg.specs.declared.kinds.CompareRequest.{CompareRequest}
 use Rattle.ldap_msg.specs.ldap_filter.filter.Filters.Filter.{Present}
 use Rattle.ldap_msg.specs.declared.operations.ResultCode.TheVariants as code
 use Rattle.ldap_msg.specs.declared.kinds.Reply.TheVariants as reply
+use Rattle.ldap_msg.specs.declared.operations.Ending.TheVariants as ending
 use Rattle.read_model.specs.Views.{Row, matched_name, result_of, result_with}
 use Rattle.read_model.specs.Selecting.{is_selected, selected}
 use Rattle.read_model.specs.SearchReplies.{found_replies, replies_at}
 use Rattle.ldap_msg.specs.declared.kinds.Request.TheVariants as request
+use Rattle.ldap_msg.specs.declared.kinds.Update.TheVariants as update
 use Rattle.answer_laws.specs.Asked.{AsksFor}
 use Rattle.answer_laws.specs.Complete.{HasKnownBase, IsComparable, is_entry, EndsWith}
 
@@ -146,18 +148,18 @@ closed = record { entry = record { name = suffix; attributes = [] }; allows = λ
 abbrev asked : SearchRequest
 asked = record { base = []; scope = BaseObject; size = 0; kinds_only = false; filter = Present (codes "objectClass"); selection = [] }
 
-a_base_that_is_not_known : replies_at (closed ∷ []) asked None suffix ≡ reply.Done (result_with code.NoSuchObject []) ∷ []
+a_base_that_is_not_known : replies_at (closed ∷ []) asked None suffix ≡ reply.Ended ending.Done (result_with code.NoSuchObject []) ∷ []
 unfolding name_cmp is_same is_prefix_of matched_name is_selected selected found_replies replies_at
 a_base_that_is_not_known = refl
 
 -- an entry, and the end
-one_entry : EndsWith code.Success (reply.Entry [] [] ∷ reply.Done (result_of code.Success) ∷ [])
+one_entry : EndsWith code.Success (reply.Entry [] [] ∷ reply.Ended ending.Done (result_of code.Success) ∷ [])
 one_entry = record { sent = reply.Entry [] [] ∷ []; entries = (refl, tt); ends = refl }
 
 -- another reply is none
-a_reply_to_a_compare_is_no_entry : is_entry (reply.Compare (result_of code.Success)) ≡ false
+a_reply_to_a_compare_is_no_entry : is_entry (reply.Ended ending.Compare (result_of code.Success)) ≡ false
 a_reply_to_a_compare_is_no_entry = refl
 
 -- a message without controls asks for its request
-a_delete : AsksFor (record { id = 3; request = request.Delete (record { name = codes "dc=t" }); controls = [] }) (request.Delete (record { name = codes "dc=t" }))
+a_delete : AsksFor (record { id = 3; request = request.Update (update.Delete (record { name = codes "dc=t" })); controls = [] }) (request.Update (update.Delete (record { name = codes "dc=t" })))
 a_delete = record { asks = refl; accepted = refl }

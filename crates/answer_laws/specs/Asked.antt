@@ -9,6 +9,7 @@ use Rattle.ldap_msg.specs.declared.kinds.Request.TheVariants as request
 use Rattle.ldap_msg.specs.declared.kinds.Message.{Message}
 use Rattle.ldap_msg.specs.declared.kinds.Reply.{Reply}
 use Rattle.ldap_msg.specs.declared.kinds.Reply.TheVariants as reply
+use Rattle.ldap_msg.specs.declared.operations.Ending.TheVariants as ending
 use Rattle.read_model.specs.Views.{result_of}
 use Rattle.read_model.specs.SearchReplies.{replies_octets}
 use Rattle.answer_laws.specs.Complete.{EndsWith}
@@ -42,4 +43,4 @@ pub record IsSearchedWith (code : ResultCode) (id : ℕ) (octets : List ℕ) : T
 
 -- the octets are those of one reply, which says that the compare came to the code
 abbrev pub IsComparedWith : ResultCode → ℕ → List ℕ → Type 0
-IsComparedWith code id octets = octets ≡ replies_octets id (reply.Compare (result_of code) ∷ [])
+IsComparedWith code id octets = octets ≡ replies_octets id (reply.Ended ending.Compare (result_of code) ∷ [])

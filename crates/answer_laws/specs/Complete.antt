@@ -16,6 +16,7 @@ use Rattle.ldap_msg.specs.declared.kinds.SearchRequest.{SearchRequest}
 use Rattle.ldap_msg.specs.declared.kinds.CompareRequest.{CompareRequest}
 use Rattle.ldap_msg.specs.declared.kinds.Reply.{Reply}
 use Rattle.ldap_msg.specs.declared.kinds.Reply.TheVariants as reply
+use Rattle.ldap_msg.specs.declared.operations.Ending.TheVariants as ending
 use Rattle.read_model.specs.Views.{result_of}
 
 -- the base of the search is the name of an entry, of which the requester may know
@@ -45,18 +46,12 @@ pub record IsComparable (entries : List EntryInformation) (who : Requester) (req
 
 -- the reply sends an entry
 abbrev pub is_entry : Reply → Bool
-is_entry (reply.Bind result) = false
 is_entry (reply.Entry name attributes) = true
-is_entry (reply.Done result) = false
-is_entry (reply.Modify result) = false
-is_entry (reply.Add result) = false
-is_entry (reply.Delete result) = false
-is_entry (reply.Rename result) = false
-is_entry (reply.Compare result) = false
+is_entry (reply.Ended ending result) = false
 is_entry (reply.Extended result name value) = false
 
 -- the replies send entries, or none, and the last one ends the search with the code
 pub record EndsWith (code : ResultCode) (replies : List Reply) : Type 0 where
   pub sent : List Reply
   pub entries : AllByRecursion (λ reply. is_entry reply ≡ true) sent
-  pub ends : replies ≡ sent ++ reply.Done (result_of code) ∷ []
+  pub ends : replies ≡ sent ++ reply.Ended ending.Done (result_of code) ∷ []

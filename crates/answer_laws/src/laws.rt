@@ -12,7 +12,9 @@ ghost use Rattle.ldap_msg.specs.declared.kinds.DeleteRequest.{DeleteRequest};
 ghost use Rattle.ldap_msg.specs.declared.kinds.ModifyRequest.{ModifyRequest};
 ghost use Rattle.ldap_msg.specs.declared.kinds.RenameRequest.{RenameRequest};
 ghost use Rattle.ldap_msg.specs.declared.kinds.Request.TheVariants as request;
+ghost use Rattle.ldap_msg.specs.declared.kinds.Update.TheVariants as update;
 ghost use Rattle.ldap_msg.specs.declared.kinds.Reply.TheVariants as reply;
+ghost use Rattle.ldap_msg.specs.declared.operations.Ending.TheVariants as ending;
 ghost use Rattle.ldap_msg.specs.declared.kinds.Message.{Message};
 ghost use Rattle.change_laws.specs.Granting.{MayDelete, MayAdd};
 ghost use Rattle.change_laws.specs.ChangeGranting.{MayModify, MayRename};
@@ -48,20 +50,20 @@ pub fn a_message_with_a_compare_that_is_granted_is_done()
 /// granted, the tree takes what it leaves, and no control of it is refused (RFC 4511 4.1.11 and 4.6 to 4.9, X.511 11).
 pub fn a_message_with_a_change_that_is_granted_is_done()
     ensures added { (keeps : Bool) (entries : List EntryInformation) (who : Requester) (message : Message)
-        (add : AddRequest) (entry : EntryInformation) → AsksFor message (request.Add add) → MayAdd entries who add entry
-        → IsMade keeps who message reply.Add (put_in entry entries) (answer_read keeps entries who (Some message)) }
+        (add : AddRequest) (entry : EntryInformation) → AsksFor message (request.Update (update.Add add)) → MayAdd entries who add entry
+        → IsMade keeps who message ending.Add (put_in entry entries) (answer_read keeps entries who (Some message)) }
     ensures deleted { (keeps : Bool) (entries : List EntryInformation) (who : Requester) (message : Message)
-        (delete : DeleteRequest) (target : EntryInformation) → AsksFor message (request.Delete delete)
+        (delete : DeleteRequest) (target : EntryInformation) → AsksFor message (request.Update (update.Delete delete))
         → MayDelete entries who delete target
-        → IsMade keeps who message reply.Delete (taken_out target.name entries) (answer_read keeps entries who (Some message)) }
+        → IsMade keeps who message ending.Delete (taken_out target.name entries) (answer_read keeps entries who (Some message)) }
     ensures modified { (keeps : Bool) (entries : List EntryInformation) (who : Requester) (message : Message)
-        (modify : ModifyRequest) (target left : EntryInformation) → AsksFor message (request.Modify modify)
+        (modify : ModifyRequest) (target left : EntryInformation) → AsksFor message (request.Update (update.Modify modify))
         → MayModify entries who modify target left
-        → IsMade keeps who message reply.Modify (put_in left (taken_out target.name entries)) (answer_read keeps entries who (Some message)) }
+        → IsMade keeps who message ending.Modify (put_in left (taken_out target.name entries)) (answer_read keeps entries who (Some message)) }
     ensures renamed { (keeps : Bool) (entries : List EntryInformation) (who : Requester) (message : Message)
-        (rename : RenameRequest) (target entry : EntryInformation) → AsksFor message (request.Rename rename)
+        (rename : RenameRequest) (target entry : EntryInformation) → AsksFor message (request.Update (update.Rename rename))
         → MayRename entries who rename target entry
-        → IsMade keeps who message reply.Rename (put_in entry (taken_out target.name entries)) (answer_read keeps entries who (Some message)) }
+        → IsMade keeps who message ending.Rename (put_in entry (taken_out target.name entries)) (answer_read keeps entries who (Some message)) }
 {
     exactly_what_may_be_done_is_done();
     exactly_what_may_be_changed_is_changed();

@@ -1,14 +1,14 @@
 -- How a change is applied step by step: what is to be done with the tree, and what a call answers for it.
-use Rattle.std.specs.Prelude.{◌≡◌, ◌≢◌, ℕ, List, [], Option, Some, None, Result, Ok, Err}
+use Rattle.std.specs.Prelude.{◌≡◌, ◌≢◌, ℕ, true, List, [], Option, Some, None, Result, Ok, Err}
 use Rattle.dir_tree.specs.plain_values.Answers.{IsFaultOf}
 use Rattle.dir_tree.specs.Entry.{EntryInformation}
 use Rattle.dir_tree.specs.tree.Trees.{put_in, taken_out}
-use Rattle.dir_tree.specs.tree.Numbered.{Numbered, entries_of, entry_of}
+use Rattle.dir_tree.specs.tree.Numbered.{Numbered, entries_of, entry_of, is_called}
 use Rattle.change_laws.specs.op_modify.ldap_msg.declared.operations.ResultCode.{ResultCode}
 use Rattle.op_add_delete.specs.declared.fault.Fault.{Fault}
 use Rattle.op_add_delete.specs.reading.Reading.{cause_of}
 use Rattle.change_replay.specs.declared.making.Step.{Step}
-use Rattle.change_replay.specs.declared.making.Step.TheVariants.{TakeOut, PutIn, Replace}
+use Rattle.change_replay.specs.declared.making.Step.TheVariants.{TakeOut, PutIn, Replace, Revise}
 
 -- the change takes out the entry of the number
 pub record TakesOut (rows : List Numbered) (id : ℕ) (expected : Result (List EntryInformation) ResultCode) : Type 0 where
@@ -27,12 +27,14 @@ abbrev pub IsStep : List Numbered → Step → Result (List EntryInformation) Re
 IsStep rows (TakeOut number) expected = TakesOut rows number.0 expected
 IsStep rows (PutIn entry) expected = expected ≡ Ok (put_in entry (entries_of rows))
 IsStep rows (Replace number entry) expected = Replaces rows number.0 entry expected
+IsStep rows (Revise number entry) expected = Replaces rows number.0 entry expected
 
--- an entry that comes has a name
-abbrev pub HasName : Step → Type 0
-HasName (TakeOut number) = Unit {0}
-HasName (PutIn entry) = entry.name ≢ []
-HasName (Replace number entry) = Unit {0}
+-- an entry that is put in has a name, and one that keeps the name of that of the number has it
+abbrev pub HasName : List Numbered → Step → Type 0
+HasName rows (TakeOut number) = Unit {0}
+HasName rows (PutIn entry) = entry.name ≢ []
+HasName rows (Replace number entry) = Unit {0}
+HasName rows (Revise number entry) = is_called number.0 entry.name rows ≡ true
 
 -- what a call answers: a step that is what the change leaves, or the fault of the change
 abbrev pub Leads : List Numbered → Result Step Fault → Result (List EntryInformation) ResultCode → Type 0

@@ -41,7 +41,7 @@ fn add_refusal(alloc: Global, tree: &Tree, entry: &Entry) -> Result<Option<Resul
 fn check_new(alloc: Global, tree: &Tree, entry: Entry) -> Result<Step, Fault>
     requires named { entry.name ≢ [] }
     ensures exact { Leads tree.now result (with_new (entries_of tree.now) entry) }
-    ensures named { IfOk result HasName }
+    ensures named { IfOk result (HasName tree.now) }
 {
     match add_refusal(alloc, tree, &entry)? {
         Some(code) => Err(Fault::Refused(code)),
@@ -53,7 +53,7 @@ fn check_new(alloc: Global, tree: &Tree, entry: Entry) -> Result<Step, Fault>
 fn check_named(alloc: Global, tree: &Tree, given: &[KindValues], name: Dn) -> Result<Step, Fault>
     requires named { name ≢ [] }
     ensures exact { Leads tree.now result (with_named (entries_of tree.now) given.now name) }
-    ensures named { IfOk result HasName }
+    ensures named { IfOk result (HasName tree.now) }
 {
     match new_entry(alloc, name, given) {
         Ok(entry) => check_new(alloc, tree, entry),
@@ -65,7 +65,7 @@ fn check_named(alloc: Global, tree: &Tree, given: &[KindValues], name: Dn) -> Re
 #[tactic(auto, unfolding(crate::specs::Applied::applied_add))]
 pub(crate) fn check_add(alloc: Global, tree: &Tree, request: &AddRequest) -> Result<Step, Fault>
     ensures exact { Leads tree.now result (applied_add (entries_of tree.now) request.now) }
-    ensures named { IfOk result HasName }
+    ensures named { IfOk result (HasName tree.now) }
 {
     match name_in(alloc, request.name.as_slice()) {
         Ok(name) => check_named(alloc, tree, request.attributes.as_slice(), name),

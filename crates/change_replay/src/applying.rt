@@ -33,7 +33,7 @@ fn check_update(alloc: Global, tree: &Tree, change: &Update) -> Result<Step, Fau
 // What the request does.
 fn check(alloc: Global, tree: &Tree, request: &Request) -> Result<Step, Fault>
     ensures exact { Leads tree.now result (applied (entries_of tree.now) request.now) }
-    ensures named { IfOk result HasName }
+    ensures named { IfOk result (HasName tree.now) }
 {
     match request {
         Request::Update(change) => check_update(alloc, tree, change),

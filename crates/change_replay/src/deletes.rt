@@ -18,7 +18,7 @@ use std::alloc::Global;
 fn check_target(tree: &Tree, target: NumberedEntry<'_>) -> Result<Step, Fault>
     requires found { entry_of target.number.0 tree.now ≡ Some target.entry.now }
     ensures exact { Leads tree.now result (without_target (entries_of tree.now) target.entry.entry.now) }
-    ensures named { IfOk result HasName }
+    ensures named { IfOk result (HasName tree.now) }
 {
     if is_suffix(tree, target) {
         return Err(Fault::Refused(ResultCode::UnwillingToPerform));
@@ -32,7 +32,7 @@ fn check_target(tree: &Tree, target: NumberedEntry<'_>) -> Result<Step, Fault>
 // The same of the entry of the name.
 fn check_named(tree: &Tree, name: &Dn) -> Result<Step, Fault>
     ensures exact { Leads tree.now result (without_named (entries_of tree.now) name.now) }
-    ensures named { IfOk result HasName }
+    ensures named { IfOk result (HasName tree.now) }
 {
     match target_in(tree, name) {
         Ok(target) => check_target(tree, target),
@@ -48,7 +48,7 @@ pub(crate) fn check_delete(
     request: &DeleteRequest,
 ) -> Result<Step, Fault>
     ensures exact { Leads tree.now result (applied_delete (entries_of tree.now) request.now) }
-    ensures named { IfOk result HasName }
+    ensures named { IfOk result (HasName tree.now) }
 {
     match name_in(alloc, request.name.as_slice()) {
         Ok(name) => check_named(tree, &name),

@@ -18,6 +18,8 @@ pub(crate) enum Step {
     PutIn(Entry),
     /// The entry takes the place of that of the number.
     Replace(EntryNo, Entry),
+    /// The entry, which has the name of that of the number, takes its place.
+    Revise(EntryNo, Entry),
 }
 
 // Takes the entry of the number out.
@@ -34,7 +36,7 @@ fn take_out(tree: &mut Tree, number: EntryNo) -> Result<(), NoMemory>
 
 // Puts the entry in.
 fn put_in(tree: &mut Tree, entry: Entry) -> Result<(), NoMemory>
-    requires named { HasName (Step.PutIn entry) }
+    requires named { HasName tree.old (Step.PutIn entry) }
     ensures ok { OnOk result ((expected : Result (List EntryInformation) ResultCode)
         → IsStep tree.old (Step.PutIn entry) expected → expected ≡ Ok (entries_of tree.new)) }
 {
@@ -56,9 +58,20 @@ fn replace(tree: &mut Tree, number: EntryNo, entry: Entry) -> Result<(), NoMemor
     }
 }
 
+// Puts the entry into the place of that of the number, whose name it has.
+fn revise(tree: &mut Tree, number: EntryNo, entry: Entry) -> Result<(), NoMemory>
+    requires named { HasName tree.old (Step.Revise number entry) }
+    ensures ok { OnOk result ((expected : Result (List EntryInformation) ResultCode)
+        → Replaces tree.old number.0 entry expected → expected ≡ Ok (entries_of tree.new)) }
+{
+    tree.entries_form_a_tree();
+    let _old = tree.revise(number, entry)?;
+    Ok(())
+}
+
 /// Does it. The error comes where memory is wanted: what is to be done was checked.
 pub(crate) fn make(tree: &mut Tree, step: Step) -> Result<(), NoMemory>
-    requires named { HasName step }
+    requires named { HasName tree.old step }
     ensures ok { OnOk result ((expected : Result (List EntryInformation) ResultCode)
         → IsStep tree.old step expected → expected ≡ Ok (entries_of tree.new)) }
 {
@@ -66,5 +79,6 @@ pub(crate) fn make(tree: &mut Tree, step: Step) -> Result<(), NoMemory>
         Step::TakeOut(number) => take_out(tree, number),
         Step::PutIn(entry) => put_in(tree, entry),
         Step::Replace(number, entry) => replace(tree, number, entry),
+        Step::Revise(number, entry) => revise(tree, number, entry),
     }
 }

@@ -25,6 +25,7 @@ use std::alloc::Global;
 fn changed(alloc: Global, entry: &Entry, changes: Vec<EntryChange>) -> Result<Entry, Fault>
     ensures exact { Answers (λ left. left) cause_of result
         (changed_by everything entry.now changes.items) }
+    ensures named { IfOk result (λ left. left.name ≡ entry.now.name) }
 {
     match change_entry(alloc, &Everything, entry, changes) {
         Ok(left) => Ok(left),
@@ -41,12 +42,13 @@ fn check_left(
     left: Entry,
 ) -> Result<Step, Fault>
     requires found { entry_of target.number.0 tree.now ≡ Some target.entry.now }
+    requires named { left.name ≡ target.entry.now.name }
     ensures exact { Leads tree.now result (with_in_place (entries_of tree.now) target.entry.entry.now left) }
-    ensures named { IfOk result HasName }
+    ensures named { IfOk result (HasName tree.now) }
 {
     match broken_in_place(alloc, tree, target, &left)? {
         Some(code) => Err(Fault::Refused(code)),
-        None => Ok(Step::Replace(target.number, left)),
+        None => Ok(Step::Revise(target.number, left)),
     }
 }
 
@@ -60,7 +62,7 @@ fn check_target(
     requires found { entry_of target.number.0 tree.now ≡ Some target.entry.now }
     ensures exact { Leads tree.now result
         (with_changed (entries_of tree.now) changes.items target.entry.entry.now) }
-    ensures named { IfOk result HasName }
+    ensures named { IfOk result (HasName tree.now) }
 {
     match changed(alloc, target.entry, changes) {
         Ok(left) => check_left(alloc, tree, target, left),
@@ -76,7 +78,7 @@ fn check_named(
     changes: Vec<EntryChange>,
 ) -> Result<Step, Fault>
     ensures exact { Leads tree.now result (with_changed_named (entries_of tree.now) name.now changes.items) }
-    ensures named { IfOk result HasName }
+    ensures named { IfOk result (HasName tree.now) }
 {
     match target_in(tree, name) {
         Ok(target) => check_target(alloc, tree, changes, target),
@@ -87,7 +89,7 @@ fn check_named(
 // The same by the changes that a request lists.
 fn check_listed(alloc: Global, tree: &Tree, given: &[Change], name: &Dn) -> Result<Step, Fault>
     ensures exact { Leads tree.now result (with_modified (entries_of tree.now) given.now name.now) }
-    ensures named { IfOk result HasName }
+    ensures named { IfOk result (HasName tree.now) }
 {
     match read_changes(alloc, given) {
         Ok(changes) => check_named(alloc, tree, name, changes),
@@ -103,7 +105,7 @@ pub(crate) fn check_modify(
     request: &ModifyRequest,
 ) -> Result<Step, Fault>
     ensures exact { Leads tree.now result (applied_modify (entries_of tree.now) request.now) }
-    ensures named { IfOk result HasName }
+    ensures named { IfOk result (HasName tree.now) }
 {
     match name_in(alloc, request.name.as_slice()) {
         Ok(name) => check_listed(alloc, tree, request.changes.as_slice(), &name),

@@ -130,7 +130,7 @@ fn check_moved(
 ) -> Result<Step, Fault>
     requires found { entry_of target.number.0 tree.now ≡ Some target.entry.now }
     ensures exact { Leads tree.now result (with_moved (entries_of tree.now) target.entry.entry.now entry) }
-    ensures named { IfOk result HasName }
+    ensures named { IfOk result (HasName tree.now) }
 {
     match coming_refusal(alloc, tree, target, &entry)? {
         Some(code) => Err(Fault::Refused(code)),
@@ -148,7 +148,7 @@ fn check_target(
     requires found { entry_of target.number.0 tree.now ≡ Some target.entry.now }
     ensures exact { Leads tree.now result
         (with_renamed (entries_of tree.now) renaming.now target.entry.entry.now) }
-    ensures named { IfOk result HasName }
+    ensures named { IfOk result (HasName tree.now) }
 {
     match become_renamed(alloc, tree, renaming, target) {
         Ok(entry) => check_moved(alloc, tree, target, entry),
@@ -159,7 +159,7 @@ fn check_target(
 // The same of the entry that has the name.
 fn check_named(alloc: Global, tree: &Tree, renaming: &Renaming) -> Result<Step, Fault>
     ensures exact { Leads tree.now result (with_renamed_named (entries_of tree.now) renaming.now) }
-    ensures named { IfOk result HasName }
+    ensures named { IfOk result (HasName tree.now) }
 {
     match target_in(tree, &renaming.name) {
         Ok(target) => check_target(alloc, tree, renaming, target),
@@ -188,7 +188,7 @@ pub(crate) fn check_rename(
     request: &RenameRequest,
 ) -> Result<Step, Fault>
     ensures exact { Leads tree.now result (applied_rename (entries_of tree.now) request.now) }
-    ensures named { IfOk result HasName }
+    ensures named { IfOk result (HasName tree.now) }
 {
     match renaming_by(alloc, request) {
         Ok(renaming) => check_named(alloc, tree, &renaming),

@@ -20,6 +20,7 @@ use Rattle.op_read.specs.acdf_filters.Granted.{granted}
 use Rattle.session_hub.specs.session_model.ldap_msg.declared.kinds.Auth.TheVariants.{Simple}
 use Rattle.session_hub.specs.session_model.ldap_msg.declared.kinds.BindRequest.{BindRequest}
 use Rattle.session_hub.specs.session_model.ldap_msg.declared.kinds.Request.TheVariants as request
+use Rattle.session_hub.specs.session_model.ldap_msg.declared.kinds.Update.TheVariants as update
 use Rattle.session_hub.specs.Parties.{nobody}
 use Rattle.hush_laws.specs.declared.part.Part.TheVariants.{Suffix, Others, Governs, Change, Bind, TurnedAway}
 use Rattle.hush_laws.specs.TwinParts.{failing_twins}
@@ -71,7 +72,7 @@ unfolding name_cmp is_same is_prefix_of has_class is_subentry is_point
 a_role_fails = refl
 
 -- a change is forbidden, and a bind at or below the name: an anonymous one is at the empty name
-a_delete_is_forbidden : failing_asked secret (request.Delete (record { name = codes "dc=example" })) ≡ Some Change
+a_delete_is_forbidden : failing_asked secret (request.Update (update.Delete (record { name = codes "dc=example" }))) ≡ Some Change
 a_delete_is_forbidden = refl
 
 abbrev anonymous : BindRequest

@@ -14,10 +14,7 @@ abbrev pub is_change : Request → Bool
 is_change (request.Bind bind) = false
 is_change request.Unbind = false
 is_change (request.Search search) = false
-is_change (request.Modify modify) = true
-is_change (request.Add add) = true
-is_change (request.Delete delete) = true
-is_change (request.Rename rename) = true
+is_change (request.Update update) = true
 is_change (request.Compare compare) = false
 is_change (request.Abandon id) = false
 is_change (request.Extended name value) = false
@@ -27,10 +24,7 @@ abbrev pub binds_within : RdnSequence → Request → Bool
 binds_within top (request.Bind bind) = is_read_within top (read_name bind.name)
 binds_within top request.Unbind = false
 binds_within top (request.Search search) = false
-binds_within top (request.Modify modify) = false
-binds_within top (request.Add add) = false
-binds_within top (request.Delete delete) = false
-binds_within top (request.Rename rename) = false
+binds_within top (request.Update update) = false
 binds_within top (request.Compare compare) = false
 binds_within top (request.Abandon id) = false
 binds_within top (request.Extended name value) = false

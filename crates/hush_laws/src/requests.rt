@@ -17,7 +17,7 @@ pub fn is_change(request: &Request) -> bool
     ensures exact { result ≡ is_change request.now }
 {
     match request {
-        Request::Modify(_) | Request::Add(_) | Request::Delete(_) | Request::Rename(_) => true,
+        Request::Update(_) => true,
         Request::Bind(_) | Request::Unbind | Request::Search(_) | Request::Compare(_) => false,
         Request::Abandon(_) | Request::Extended(_, _) => false,
     }

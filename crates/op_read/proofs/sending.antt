@@ -1,1 +1,2 @@
+pub mod PutsLemmas
 pub mod SendingLemmas

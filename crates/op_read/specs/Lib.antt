@@ -1,4 +1,5 @@
 -- what public clauses cite
+pub mod Short
 pub mod Alike
 -- for the inside of the crate alone
 pub mod Seeing

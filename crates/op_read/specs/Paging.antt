@@ -7,21 +7,25 @@ use Rattle.dir_tree.specs.declared.number.EntryNo.{EntryNo}
 use Rattle.ldap_msg.specs.declared.operations.ResultCode.TheVariants as code
 use Rattle.ldap_msg.specs.declared.kinds.SearchRequest.{SearchRequest}
 use Rattle.ldap_msg.specs.declared.kinds.Reply.TheVariants as reply
+use Rattle.ldap_msg.specs.declared.operations.Ending.TheVariants as ending
 use Rattle.page_core.specs.read_model.Views.{View, discloses, no_such_object}
 use Rattle.page_core.specs.read_model.RootEntry.{root_replies}
 use Rattle.page_core.specs.read_model.Selecting.{selected}
 use Rattle.page_core.specs.read_model.SearchReplies.{replies_at}
 use Rattle.page_core.specs.declared.page.Page.{Page}
-use Rattle.page_core.specs.Endings.{page_end}
 use Rattle.page_core.specs.Starts.{start_of, is_after}
-use Rattle.page_core.specs.Pages.{Paged, paged_octets, unpaged, ended, last_name, page_of_rows, unlimited, is_success}
+use Rattle.page_core.specs.Pages.{Paged, unpaged, ended, last_name, page_of_rows, unlimited, is_success}
 use Rattle.op_read.specs.declared.sending.Found.{Found}
 use Rattle.op_read.specs.declared.sending.Found.TheVariants.{Nothing, Some as FoundSome, TooMany}
 use Rattle.op_read.specs.Sending.{is_filled}
 
+-- the end of a page alone, with this cookie
+abbrev pub ending_page : List ℕ → Paged
+ending_page cookie = record { replies = []; cookie = Some cookie }
+
 -- a page of no entries, which ends the listing
 abbrev pub empty_page : Paged
-empty_page = record { replies = []; cookie = Some [] }
+empty_page = ending_page []
 
 -- the whole search succeeds: the base may be known of, or an entry is selected
 abbrev pub is_done : View → View → RdnSequence → Bool
@@ -30,13 +34,13 @@ is_done view all base = discloses view base || is_filled all
 -- a page behind whose name no entry is
 abbrev pub page_of_none : View → View → RdnSequence → Paged
 page_of_none view all base =
-    if is_done view all base then empty_page else unpaged (reply.Done (no_such_object view base) ∷ [])
+    if is_done view all base then empty_page else unpaged (reply.Ended ending.Done (no_such_object view base) ∷ [])
 
 -- how a page ends, by what was found for it
-abbrev pub page_ending : (Option EntryNo → View) → ℕ → View → View → RdnSequence → Found → List ℕ
-page_ending at id view all base Nothing = paged_octets id (page_of_none view all base)
-page_ending at id view all base FoundSome = page_end id []
-page_ending at id view all base (TooMany last) = page_end id (print_name (last_name (at last)))
+abbrev pub page_ending : (Option EntryNo → View) → View → View → RdnSequence → Found → Paged
+page_ending at view all base Nothing = page_of_none view all base
+page_ending at view all base FoundSome = empty_page
+page_ending at view all base (TooMany last) = ending_page (print_name (last_name (at last)))
 
 -- a page behind a name, of a base that is a name
 abbrev pub page_at : View → SearchRequest → Option Bool → RdnSequence → ℕ → RdnSequence → Paged

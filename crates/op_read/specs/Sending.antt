@@ -1,5 +1,5 @@
 -- What a search sends, one entry after the other.
-use Rattle.std.specs.Prelude.{◌≡◌, ◌≢◌, ℕ, ◌+◌, Bool, true, false, List, [], ◌∷◌, ◌++◌, length, filter, flat_map, Option, is_some}
+use Rattle.std.specs.Prelude.{◌≡◌, ◌≢◌, ℕ, ◌+◌, Bool, true, false, List, [], ◌∷◌, ◌++◌, length, map, filter, flat_map, Option, is_some}
 use Rattle.dir_tree.specs.tree.Numbered.{Numbered, entry_of}
 use Rattle.dir_tree.specs.declared.number.EntryNo.{EntryNo}
 use Rattle.dir_tree.specs.dn_names.name.Names.{RdnSequence}
@@ -7,7 +7,7 @@ use Rattle.acdf_filters.specs.declared.asking.Requester.{Requester}
 use Rattle.ldap_msg.specs.declared.operations.ResultCode.TheVariants as code
 use Rattle.ldap_msg.specs.declared.kinds.LdapResult.{LdapResult}
 use Rattle.ldap_msg.specs.declared.kinds.SearchRequest.{SearchRequest}
-use Rattle.ldap_msg.specs.Replies.{reply_octets}
+use Rattle.ldap_msg.specs.declared.kinds.Reply.{Reply}
 use Rattle.page_core.specs.read_model.Views.{Row, View, result_of}
 use Rattle.page_core.specs.read_model.Choosing.{sent_entry}
 use Rattle.page_core.specs.read_model.SearchReplies.{within_limit, limit_code, nothing_found}
@@ -15,6 +15,7 @@ use Rattle.op_read.specs.declared.sending.Sent.{Sent}
 use Rattle.op_read.specs.declared.sending.Found.{Found}
 use Rattle.op_read.specs.declared.sending.Found.TheVariants.{Nothing, Some as FoundSome, TooMany}
 use Rattle.op_read.specs.Seeing.{row_in, one_or_none}
+use Rattle.op_read.specs.Short.{Puts}
 
 -- there are some
 abbrev pub is_filled : View → Bool
@@ -35,38 +36,38 @@ shown_at test rows who id = filter test (one_or_none (row_in rows who) (entry_of
 abbrev pub shown_among : (Row → Bool) → List Numbered → Requester → List ℕ → View
 shown_among test rows who ids = flat_map (shown_at test rows who) ids
 
--- the octets of an entry as it is sent
-abbrev pub entry_octets : ℕ → SearchRequest → Row → List ℕ
-entry_octets id request row = reply_octets id (sent_entry request.selection request.kinds_only row)
+-- entries as they are sent
+abbrev pub sent_entries : SearchRequest → View → List Reply
+sent_entries request rows = map (sent_entry request.selection request.kinds_only) rows
 
 -- of all that are found some were sent and these are left: the number of the last that was sent, and how many more may
 -- be sent, if there is a limit
-pub record Sends (at : Option EntryNo → View) (limit : ℕ) (octets : Row → List ℕ) (all left : View) (before : List ℕ) (sent : Sent) (after : List ℕ) : Type 0 where
+pub record Sends (at : Option EntryNo → View) (limit id : ℕ) (request : SearchRequest) (all left : View) (before : List ℕ) (sent : Sent) (after : List ℕ) : Type 0 where
   pub rows : View
   pub whole : all ≡ rows ++ left
-  pub put : after ≡ before ++ flat_map octets rows
+  pub put : Puts id (sent_entries request rows) before after
   pub some : is_some sent.last ≡ is_filled rows
   pub last : at sent.last ≡ last_row rows
   pub room : limit ≢ 0 → length rows + sent.room ≡ limit
 
 -- a step of a search: these are sent, or there is one that may not be
-abbrev pub Goes : (Option EntryNo → View) → ℕ → (Row → List ℕ) → View → Sent → List ℕ → Sent → List ℕ → Bool → Type 0
-Goes at limit octets rows sent out sent_new out_new true =
-    (all left : View) (before : List ℕ) → Sends at limit octets all (rows ++ left) before sent out
-    → Sends at limit octets all left before sent_new out_new
-Goes at limit octets rows sent out sent_new out_new false =
+abbrev pub Goes : (Option EntryNo → View) → ℕ → ℕ → SearchRequest → View → Sent → List ℕ → Sent → List ℕ → Bool → Type 0
+Goes at limit id request rows sent out sent_new out_new true =
+    (all left : View) (before : List ℕ) → Sends at limit id request all (rows ++ left) before sent out
+    → Sends at limit id request all left before sent_new out_new
+Goes at limit id request rows sent out sent_new out_new false =
     (is_filled rows ≡ true) × (limit ≢ 0) × (sent.room ≡ 0) × (sent_new.last ≡ sent.last) × (out_new ≡ out)
 
 -- all that are found were sent, as far as the limit allows
-abbrev pub SendsAll : ℕ → (Row → List ℕ) → View → List ℕ → List ℕ → Type 0
-SendsAll limit octets all before after = (is_filled all ≡ true) × (after ≡ before ++ flat_map octets (within_limit limit all))
+abbrev pub SendsAll : ℕ → ℕ → SearchRequest → View → List ℕ → List ℕ → Type 0
+SendsAll limit id request all before after = (is_filled all ≡ true) × Puts id (sent_entries request (within_limit limit all)) before after
 
 -- what was found, and sent; of more than may be sent the number of the last that was
-abbrev pub IsSent : (Option EntryNo → View) → ℕ → (Row → List ℕ) → View → List ℕ → List ℕ → Found → Type 0
-IsSent at limit octets all before after Nothing = (all ≡ []) × (after ≡ before)
-IsSent at limit octets all before after FoundSome = SendsAll limit octets all before after × (limit_code limit all ≡ code.Success)
-IsSent at limit octets all before after (TooMany last) =
-    SendsAll limit octets all before after × (limit_code limit all ≡ code.SizeLimitExceeded)
+abbrev pub IsSent : (Option EntryNo → View) → ℕ → ℕ → SearchRequest → View → List ℕ → List ℕ → Found → Type 0
+IsSent at limit id request all before after Nothing = (all ≡ []) × (after ≡ before)
+IsSent at limit id request all before after FoundSome = SendsAll limit id request all before after × (limit_code limit all ≡ code.Success)
+IsSent at limit id request all before after (TooMany last) =
+    SendsAll limit id request all before after × (limit_code limit all ≡ code.SizeLimitExceeded)
     × (at last ≡ last_row (within_limit limit all))
 
 -- how the search ends then

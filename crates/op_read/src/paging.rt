@@ -9,14 +9,14 @@ ghost use Rattle.dir_tree.specs.tree.Numbered.{IsNumberedTree, entries_of, find_
 ghost use Rattle.ldap_msg.specs.ber_layout.Spellings.{Extends};
 ghost use Rattle.page_core.specs.read_model.Views.{view_of};
 ghost use Rattle.page_core.specs.read_model.Selecting.{is_shown, selected};
-ghost use Rattle.page_core.specs.Endings.{page_end};
 ghost use Rattle.page_core.specs.Starts.{start_of, is_after};
 ghost use Rattle.page_core.specs.Pages.{fits_page, last_name, paged_octets, page_by, page_replies};
 ghost use Rattle.directory.specs.Asking.{view_in};
 ghost use Rattle.op_read.specs.Alike.{SendsPageAlike};
-ghost use Rattle.op_read.specs.Paging.{is_done, page_of_none, page_ending, page_at, page_sized_at, page_from_at, page_named};
+ghost use Rattle.op_read.specs.Paging.{is_done, ending_page, page_of_none, page_ending, page_at, page_sized_at, page_from_at, page_named};
 ghost use Rattle.op_read.specs.Seeing.{rows_at, scope_of};
-ghost use Rattle.op_read.specs.Sending.{is_filled, shown_at, shown_among, entry_octets, IsSent};
+ghost use Rattle.op_read.specs.Sending.{is_filled, shown_at, shown_among, IsSent};
+ghost use Rattle.op_read.specs.Short.{IsShortPage, PutsPage};
 
 use crate::candidates::{Candidates, candidates_after};
 use crate::choosing::{Selection, read_choices};
@@ -107,6 +107,14 @@ fn is_done<D: Dir>(search: &Search<'_>, target: &Target<'_, '_, D>, base: &Dn) -
         || is_any_shown(target.asking, search, target.number)
 }
 
+// Appends the end of a page with the cookie.
+fn put_end(id: u32, cookie: &[u8], out: &mut Vec<u8>) -> Result<(), NoMemory>
+    ensures ok { OnOk result (PutsPage id (ending_page cookie.now) out.old.items out.new.items) }
+    ensures kept { Extends out.old.items out.new.items }
+{
+    put_page_end(out, id, cookie)
+}
+
 // Appends how a page ends behind whose name no entry is.
 fn put_none<D: Dir>(
     alloc: Global,
@@ -117,14 +125,15 @@ fn put_none<D: Dir>(
 ) -> Result<(), NoMemory>
     requires tree { IsNumberedTree (D.rows target.now.asking.now.dir.now) }
     requires found { find_name base.now (D.rows target.now.asking.now.dir.now) ≡ Some target.now.number.0 }
-    ensures ok { OnOk result (out.new.items ≡ out.old.items ++ paged_octets search.now.id
+    ensures ok { OnOk result (PutsPage search.now.id
         (page_of_none (view_in (D.rows target.now.asking.now.dir.now) target.now.asking.now.who.now)
         (selected (view_in (D.rows target.now.asking.now.dir.now) target.now.asking.now.who.now) search.now.request.now
-        search.now.subentries base.now) base.now)) }
+        search.now.subentries base.now) base.now)
+        out.old.items out.new.items) }
     ensures kept { Extends out.old.items out.new.items }
 {
     if is_done(search, target, base) {
-        return put_page_end(out, search.id, &[]);
+        return put_end(search.id, &[], out);
     }
     let ended = no_such_object(alloc, target.asking, base)?;
     put_done(search.id, ended, out)
@@ -168,12 +177,13 @@ fn put_more<D: Dir>(
     last: Option<EntryNo>,
     out: &mut Vec<u8>,
 ) -> Result<(), NoMemory>
-    ensures ok { OnOk result (out.new.items ≡ out.old.items ++ page_end id
-        (print_name (last_name (rows_at (D.rows asking.now.dir.now) asking.now.who.now last)))) }
+    ensures ok { OnOk result (PutsPage id (ending_page
+        (print_name (last_name (rows_at (D.rows asking.now.dir.now) asking.now.who.now last))))
+        out.old.items out.new.items) }
     ensures kept { Extends out.old.items out.new.items }
 {
     let cookie = name_at(alloc, asking, last)?;
-    put_page_end(out, id, cookie.as_slice())
+    put_end(id, cookie.as_slice(), out)
 }
 
 // Appends how a page ends, by what was found for it.
@@ -187,16 +197,17 @@ fn put_ending<D: Dir>(
 ) -> Result<(), NoMemory>
     requires tree { IsNumberedTree (D.rows target.now.asking.now.dir.now) }
     requires found { find_name base.now (D.rows target.now.asking.now.dir.now) ≡ Some target.now.number.0 }
-    ensures ok { OnOk result (out.new.items ≡ out.old.items ++ page_ending
-        (rows_at (D.rows target.now.asking.now.dir.now) target.now.asking.now.who.now) search.now.id
+    ensures ok { OnOk result (PutsPage search.now.id (page_ending
+        (rows_at (D.rows target.now.asking.now.dir.now) target.now.asking.now.who.now)
         (view_in (D.rows target.now.asking.now.dir.now) target.now.asking.now.who.now)
         (selected (view_in (D.rows target.now.asking.now.dir.now) target.now.asking.now.who.now) search.now.request.now
-        search.now.subentries base.now) base.now found) }
+        search.now.subentries base.now) base.now found)
+        out.old.items out.new.items) }
     ensures kept { Extends out.old.items out.new.items }
 {
     match found {
         Found::Nothing => put_none(alloc, search, target, base, out),
-        Found::Some => put_page_end(out, search.id, &[]),
+        Found::Some => put_end(search.id, &[], out),
         Found::TooMany(last) => put_more(alloc, target.asking, search.id, last, out),
     }
 }
@@ -214,7 +225,7 @@ fn put_behind<D: Dir>(
     requires found { find_name start.base.now (D.rows target.now.asking.now.dir.now) ≡ Some target.now.number.0 }
     ensures ok { IfOk result (λ found. IsSent
         (rows_at (D.rows target.now.asking.now.dir.now) target.now.asking.now.who.now)
-        search.now.limit (entry_octets search.now.id search.now.request.now)
+        search.now.limit search.now.id search.now.request.now
         (filter (is_after start.entry.after.now)
         (selected (view_in (D.rows target.now.asking.now.dir.now) target.now.asking.now.who.now) search.now.request.now
         search.now.subentries start.entry.base.now))
@@ -242,9 +253,10 @@ fn put_page_selected<D: Dir>(
     requires tree { IsNumberedTree (D.rows target.now.asking.now.dir.now) }
     requires found { find_name start.base.now (D.rows target.now.asking.now.dir.now) ≡ Some target.now.number.0 }
     requires limit { search.now.limit ≢ 0 }
-    ensures ok { OnOk result (out.new.items ≡ out.old.items ++ paged_octets search.now.id
+    ensures ok { OnOk result (PutsPage search.now.id
         (page_at (view_in (D.rows target.now.asking.now.dir.now) target.now.asking.now.who.now) search.now.request.now
-        search.now.subentries start.entry.base.now search.now.limit start.entry.after.now)) }
+        search.now.subentries start.entry.base.now search.now.limit start.entry.after.now)
+        out.old.items out.new.items) }
     ensures kept { Extends out.old.items out.new.items }
 {
     let found = put_behind(alloc, search, target, start, out)?;
@@ -260,9 +272,10 @@ fn put_page_at<D: Dir>(
     out: &mut Vec<u8>,
 ) -> Result<(), NoMemory>
     requires limit { search.now.limit ≢ 0 }
-    ensures ok { OnOk result (out.new.items ≡ out.old.items ++ paged_octets search.now.id
+    ensures ok { OnOk result (PutsPage search.now.id
         (page_at (view_in (D.rows asking.now.dir.now) asking.now.who.now) search.now.request.now
-        search.now.subentries start.entry.base.now search.now.limit start.entry.after.now)) }
+        search.now.subentries start.entry.base.now search.now.limit start.entry.after.now)
+        out.old.items out.new.items) }
     ensures kept { Extends out.old.items out.new.items }
 {
     asking.dir.tree().entries_form_a_tree();
@@ -282,9 +295,10 @@ fn put_page_prepared<D: Dir>(
     out: &mut Vec<u8>,
 ) -> Result<(), NoMemory>
     requires { size ≢ 0 }
-    ensures ok { OnOk result (out.new.items ≡ out.old.items ++ paged_octets asked.entry.id
+    ensures ok { OnOk result (PutsPage asked.entry.id
         (page_at (view_in (D.rows asking.now.dir.now) asking.now.who.now) asked.entry.request.now
-        asked.entry.subentries start.entry.base.now size start.entry.after.now)) }
+        asked.entry.subentries start.entry.base.now size start.entry.after.now)
+        out.old.items out.new.items) }
     ensures kept { Extends out.old.items out.new.items }
 {
     let filter = prepare_filter(alloc, &asked.request.filter)?;
@@ -314,13 +328,14 @@ fn put_page_sized<D: Dir>(
     start: Start<'_>,
     out: &mut Vec<u8>,
 ) -> Result<(), NoMemory>
-    ensures ok { OnOk result (out.new.items ≡ out.old.items ++ paged_octets asked.entry.id
+    ensures ok { OnOk result (PutsPage asked.entry.id
         (page_sized_at (view_in (D.rows asking.now.dir.now) asking.now.who.now) asked.entry.request.now
-        asked.entry.subentries start.entry.base.now size start.entry.after.now)) }
+        asked.entry.subentries start.entry.base.now size start.entry.after.now)
+        out.old.items out.new.items) }
     ensures kept { Extends out.old.items out.new.items }
 {
     if size == 0 {
-        return put_page_end(out, asked.id, &[]);
+        return put_end(asked.id, &[], out);
     }
     put_page_prepared(alloc, asking, asked, size, start, out)
 }
@@ -334,9 +349,10 @@ fn put_page_from<D: Dir>(
     page: &Page,
     out: &mut Vec<u8>,
 ) -> Result<(), NoMemory>
-    ensures ok { OnOk result (out.new.items ≡ out.old.items ++ paged_octets asked.entry.id
+    ensures ok { OnOk result (PutsPage asked.entry.id
         (page_from_at (view_in (D.rows asking.now.dir.now) asking.now.who.now) asked.entry.request.now
-        asked.entry.subentries base.now page.now.size (start_of page.now.cookie))) }
+        asked.entry.subentries base.now page.now.size (start_of page.now.cookie))
+        out.old.items out.new.items) }
     ensures kept { Extends out.old.items out.new.items }
 {
     match read_start(alloc, page.cookie.as_slice())? {
@@ -363,9 +379,10 @@ fn put_page_named<D: Dir>(
     page: &Page,
     out: &mut Vec<u8>,
 ) -> Result<(), NoMemory>
-    ensures ok { OnOk result (out.new.items ≡ out.old.items ++ paged_octets asked.entry.id
+    ensures ok { OnOk result (PutsPage asked.entry.id
         (page_named (view_in (D.rows asking.now.dir.now) asking.now.who.now) asked.entry.request.now
-        asked.entry.subentries page.now base.now)) }
+        asked.entry.subentries page.now base.now)
+        out.old.items out.new.items) }
     ensures kept { Extends out.old.items out.new.items }
 {
     if base.len() == 0 {
@@ -382,9 +399,10 @@ fn put_page_by<D: Dir>(
     page: &Page,
     out: &mut Vec<u8>,
 ) -> Result<(), NoMemory>
-    ensures ok { OnOk result (out.new.items ≡ out.old.items ++ paged_octets asked.entry.id
+    ensures ok { OnOk result (PutsPage asked.entry.id
         (page_by (view_in (D.rows asking.now.dir.now) asking.now.who.now) asked.entry.request.now
-        asked.entry.subentries page.now (read_name asked.entry.request.now.base))) }
+        asked.entry.subentries page.now (read_name asked.entry.request.now.base))
+        out.old.items out.new.items) }
     ensures kept { Extends out.old.items out.new.items }
 {
     match read_named(alloc, asked.request.base.as_slice())? {
@@ -401,9 +419,10 @@ fn put_page_known<D: Dir>(
     page: &Page,
     out: &mut Vec<u8>,
 ) -> Result<(), NoMemory>
-    ensures ok { OnOk result (out.new.items ≡ out.old.items ++ paged_octets asked.entry.id
+    ensures ok { OnOk result (PutsPage asked.entry.id
         (page_replies (view_in (D.rows asking.now.dir.now) asking.now.who.now) asked.entry.request.now
-        asked.entry.subentries page.now)) }
+        asked.entry.subentries page.now)
+        out.old.items out.new.items) }
     ensures kept { Extends out.old.items out.new.items }
 {
     if fits_page(asked.request, page.size) {
@@ -421,9 +440,10 @@ fn put_page<D: Dir>(
     page: &Page,
     out: &mut Vec<u8>,
 ) -> Result<(), NoMemory>
-    ensures ok { OnOk result (out.new.items ≡ out.old.items ++ paged_octets asked.entry.id
+    ensures ok { OnOk result (PutsPage asked.entry.id
         (page_replies (view_of (entries_of (D.rows dir.now)) who.now) asked.entry.request.now
-        asked.entry.subentries page.now)) }
+        asked.entry.subentries page.now)
+        out.old.items out.new.items) }
     ensures kept { Extends out.old.items out.new.items }
 {
     let asking = Asking::new(alloc, dir, who)?;
@@ -439,9 +459,10 @@ fn append_page<D: Dir>(
     page: &Page,
     out: &mut Vec<u8>,
 ) -> Result<(), NoMemory>
-    ensures ok { OnOk result (out.new.items ≡ out.old.items ++ paged_octets asked.entry.id
+    ensures ok { OnOk result (PutsPage asked.entry.id
         (page_replies (view_of (entries_of (D.rows dir.now)) who.now) asked.entry.request.now
-        asked.entry.subentries page.now)) }
+        asked.entry.subentries page.now)
+        out.old.items out.new.items) }
     ensures err { OnErr result (out.new.items ≡ out.old.items) }
 {
     let before = out.len();
@@ -476,6 +497,9 @@ pub fn search_page<D: Dir>(
 ) -> Result<(), NoMemory>
     ensures ok { OnOk result (out.new.items ≡ out.old.items ++ paged_octets id
         (page_replies (view_of (entries_of (D.rows dir.now)) who.now) request.now subentries page.now)) }
+    // So it is read again.
+    ensures short { OnOk result (IsShortPage id (page_replies (view_of (entries_of (D.rows dir.now)) who.now) request.now
+        subentries page.now)) }
     ensures err { OnErr result (out.new.items ≡ out.old.items) }
     ensures twins { OnOk result (SendsPageAlike who.now (entries_of (D.rows dir.now)) id request.now subentries
         page.now out.old.items out.new.items) }

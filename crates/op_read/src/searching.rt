@@ -6,6 +6,7 @@ ghost use Rattle.dir_tree.specs.tree.Trees.{named_in};
 ghost use Rattle.dir_tree.specs.tree.Numbered.{IsNumberedTree, entries_of, find_name};
 ghost use Rattle.ldap_msg.specs.ber_layout.Spellings.{Extends};
 ghost use Rattle.ldap_msg.specs.declared.kinds.Reply.TheVariants as reply;
+ghost use Rattle.ldap_msg.specs.declared.operations.Ending.TheVariants as ending;
 ghost use Rattle.page_core.specs.read_model.Views.{view_of, hidden};
 ghost use Rattle.page_core.specs.read_model.Selecting.{is_shown, selected};
 ghost use Rattle.page_core.specs.read_model.RootEntry.{finds_root, root_entry, root_replies};
@@ -13,18 +14,19 @@ ghost use Rattle.page_core.specs.read_model.SearchReplies.{replies_octets, found
 ghost use Rattle.directory.specs.Asking.{view_in};
 ghost use Rattle.op_read.specs.Alike.{SendsAlike};
 ghost use Rattle.op_read.specs.Seeing.{rows_at, scope_of};
-ghost use Rattle.op_read.specs.Sending.{shown_among, entry_octets, IsSent};
+ghost use Rattle.op_read.specs.Sending.{shown_among, IsSent};
+ghost use Rattle.op_read.specs.Short.{AreShort, Puts};
 
 use crate::candidates::{Candidates, candidates_of};
 use crate::choosing::{Selection, read_choices};
 use crate::root_entry::{finds_root, root_entry};
 use crate::selecting::walk_from;
-use crate::sending::{Found, Search, ended_by, put_done, put_found};
+use crate::sending::{Found, Search, ended_by, put_done, put_found, put_one};
 use acdf_filters::Requester;
 use dir_tree::dn_names::Dn;
 use dir_tree::{EntryNo, NoMemory};
 use directory::{Asking, Dir, Target, absent, read_named, result_of};
-use ldap_msg::{ResultCode, SearchRequest, put_reply};
+use ldap_msg::{ResultCode, SearchRequest};
 use page_core::read_model::filter_match::prepare_filter;
 use std::alloc::Global;
 
@@ -48,7 +50,7 @@ fn put_scope<D: Dir>(
     out: &mut Vec<u8>,
 ) -> Result<Found, NoMemory>
     ensures ok { IfOk result (λ found. IsSent (rows_at (D.rows asking.now.dir.now) asking.now.who.now)
-        search.now.limit (entry_octets search.now.id search.now.request.now)
+        search.now.limit search.now.id search.now.request.now
         (shown_among (is_shown search.now.request.now search.now.subentries) (D.rows asking.now.dir.now)
         asking.now.who.now
         (scoped (scope_of search.now.request.now.scope) number.0 (D.rows asking.now.dir.now)))
@@ -75,11 +77,12 @@ fn put_selected<D: Dir>(
     requires tree { IsNumberedTree (D.rows target.now.asking.now.dir.now) }
     requires found { find_name base.now (D.rows target.now.asking.now.dir.now) ≡ Some target.now.number.0 }
     requires limit { search.now.limit ≡ search.now.request.now.size }
-    ensures ok { OnOk result (out.new.items ≡ out.old.items ++ replies_octets search.now.id
+    ensures ok { OnOk result (Puts search.now.id
         (found_replies (view_in (D.rows target.now.asking.now.dir.now) target.now.asking.now.who.now)
         search.now.request.now base.now
         (selected (view_in (D.rows target.now.asking.now.dir.now) target.now.asking.now.who.now) search.now.request.now
-        search.now.subentries base.now))) }
+        search.now.subentries base.now))
+        out.old.items out.new.items) }
     ensures kept { Extends out.old.items out.new.items }
 {
     let found = put_scope(alloc, target.asking, search, target.number, out)?;
@@ -96,8 +99,9 @@ pub(crate) fn put_absent<D: Dir>(
     out: &mut Vec<u8>,
 ) -> Result<(), NoMemory>
     requires none { named_in base.now (entries_of (D.rows asking.now.dir.now)) ≡ None }
-    ensures ok { OnOk result (out.new.items ≡ out.old.items ++ replies_octets id
-        (reply.Done (hidden (view_in (D.rows asking.now.dir.now) asking.now.who.now) base.now) ∷ [])) }
+    ensures ok { OnOk result (Puts id
+        (reply.Ended ending.Done (hidden (view_in (D.rows asking.now.dir.now) asking.now.who.now) base.now) ∷ [])
+        out.old.items out.new.items) }
     ensures kept { Extends out.old.items out.new.items }
 {
     let ended = absent(alloc, asking, base)?;
@@ -113,9 +117,10 @@ fn put_at<D: Dir>(
     out: &mut Vec<u8>,
 ) -> Result<(), NoMemory>
     requires limit { search.now.limit ≡ search.now.request.now.size }
-    ensures ok { OnOk result (out.new.items ≡ out.old.items ++ replies_octets search.now.id
+    ensures ok { OnOk result (Puts search.now.id
         (replies_at (view_in (D.rows asking.now.dir.now) asking.now.who.now) search.now.request.now
-        search.now.subentries base.now)) }
+        search.now.subentries base.now)
+        out.old.items out.new.items) }
     ensures kept { Extends out.old.items out.new.items }
 {
     asking.dir.tree().entries_form_a_tree();
@@ -133,9 +138,10 @@ fn put_prepared<D: Dir>(
     base: &Dn,
     out: &mut Vec<u8>,
 ) -> Result<(), NoMemory>
-    ensures ok { OnOk result (out.new.items ≡ out.old.items ++ replies_octets asked.entry.id
+    ensures ok { OnOk result (Puts asked.entry.id
         (replies_at (view_in (D.rows asking.now.dir.now) asking.now.who.now) asked.entry.request.now
-        asked.entry.subentries base.now)) }
+        asked.entry.subentries base.now)
+        out.old.items out.new.items) }
     ensures kept { Extends out.old.items out.new.items }
 {
     let filter = prepare_filter(alloc, &asked.request.filter)?;
@@ -163,15 +169,16 @@ fn put_root<D: Dir>(
     asked: Asked<'_>,
     out: &mut Vec<u8>,
 ) -> Result<(), NoMemory>
-    ensures ok { OnOk result (out.new.items ≡ out.old.items ++ replies_octets asked.entry.id
+    ensures ok { OnOk result (Puts asked.entry.id
         (if finds_root asked.entry.request.now asked.entry.subentries
         then root_entry (view_in (D.rows asking.now.dir.now) asking.now.who.now) asked.entry.request.now ∷ []
-        else [])) }
+        else [])
+        out.old.items out.new.items) }
     ensures kept { Extends out.old.items out.new.items }
 {
     if finds_root(asked.request, asked.subentries) {
         let reply = root_entry(alloc, asking, asked.request)?;
-        return put_reply(out, asked.id, &reply);
+        return put_one(asked.id, &reply, out);
     }
     Ok(())
 }
@@ -183,9 +190,10 @@ pub(crate) fn put_root_replies<D: Dir>(
     asked: Asked<'_>,
     out: &mut Vec<u8>,
 ) -> Result<(), NoMemory>
-    ensures ok { OnOk result (out.new.items ≡ out.old.items ++ replies_octets asked.entry.id
+    ensures ok { OnOk result (Puts asked.entry.id
         (root_replies (view_in (D.rows asking.now.dir.now) asking.now.who.now) asked.entry.request.now
-        asked.entry.subentries)) }
+        asked.entry.subentries)
+        out.old.items out.new.items) }
     ensures kept { Extends out.old.items out.new.items }
 {
     if !asked.request.scope.is_base() {
@@ -203,9 +211,10 @@ fn put_named<D: Dir>(
     base: &Dn,
     out: &mut Vec<u8>,
 ) -> Result<(), NoMemory>
-    ensures ok { OnOk result (out.new.items ≡ out.old.items ++ replies_octets asked.entry.id
+    ensures ok { OnOk result (Puts asked.entry.id
         (replies_by (view_in (D.rows asking.now.dir.now) asking.now.who.now) asked.entry.request.now
-        asked.entry.subentries (Ok base.now))) }
+        asked.entry.subentries (Ok base.now))
+        out.old.items out.new.items) }
     ensures kept { Extends out.old.items out.new.items }
 {
     if base.len() == 0 {
@@ -221,9 +230,10 @@ pub(crate) fn put_known<D: Dir>(
     asked: Asked<'_>,
     out: &mut Vec<u8>,
 ) -> Result<(), NoMemory>
-    ensures ok { OnOk result (out.new.items ≡ out.old.items ++ replies_octets asked.entry.id
+    ensures ok { OnOk result (Puts asked.entry.id
         (search_replies (view_in (D.rows asking.now.dir.now) asking.now.who.now) asked.entry.request.now
-        asked.entry.subentries)) }
+        asked.entry.subentries)
+        out.old.items out.new.items) }
     ensures kept { Extends out.old.items out.new.items }
 {
     match read_named(alloc, asked.request.base.as_slice())? {
@@ -240,9 +250,10 @@ fn put_replies<D: Dir>(
     asked: Asked<'_>,
     out: &mut Vec<u8>,
 ) -> Result<(), NoMemory>
-    ensures ok { OnOk result (out.new.items ≡ out.old.items ++ replies_octets asked.entry.id
+    ensures ok { OnOk result (Puts asked.entry.id
         (search_replies (view_of (entries_of (D.rows dir.now)) who.now) asked.entry.request.now
-        asked.entry.subentries)) }
+        asked.entry.subentries)
+        out.old.items out.new.items) }
     ensures kept { Extends out.old.items out.new.items }
 {
     let asking = Asking::new(alloc, dir, who)?;
@@ -257,9 +268,10 @@ fn append_replies<D: Dir>(
     asked: Asked<'_>,
     out: &mut Vec<u8>,
 ) -> Result<(), NoMemory>
-    ensures ok { OnOk result (out.new.items ≡ out.old.items ++ replies_octets asked.entry.id
+    ensures ok { OnOk result (Puts asked.entry.id
         (search_replies (view_of (entries_of (D.rows dir.now)) who.now) asked.entry.request.now
-        asked.entry.subentries)) }
+        asked.entry.subentries)
+        out.old.items out.new.items) }
     ensures err { OnErr result (out.new.items ≡ out.old.items) }
 {
     let before = out.len();
@@ -291,6 +303,9 @@ pub fn search<D: Dir>(
 ) -> Result<(), NoMemory>
     ensures ok { OnOk result (out.new.items ≡ out.old.items ++ replies_octets id
         (search_replies (view_of (entries_of (D.rows dir.now)) who.now) request.now subentries)) }
+    // So each of them is read again.
+    ensures short { OnOk result (AreShort id (search_replies (view_of (entries_of (D.rows dir.now)) who.now) request.now
+        subentries)) }
     ensures err { OnErr result (out.new.items ≡ out.old.items) }
     ensures twins { OnOk result (SendsAlike who.now (entries_of (D.rows dir.now)) id request.now subentries
         out.old.items out.new.items) }

@@ -1,17 +1,19 @@
 //! What a search sends.
 
-ghost use Rattle.std.specs.Prelude.{◌≡◌, ◌++◌, ◌∷◌, [], ℕ, Some, IfOk, OnOk, filter};
+ghost use Rattle.std.specs.Prelude.{◌≡◌, ◌∷◌, [], ℕ, Some, IfOk, OnOk, filter};
 ghost use Rattle.std.specs.List.{list_any};
 ghost use Rattle.dir_tree.specs.tree.Numbered.{IsNumberedTree, find_name};
 ghost use Rattle.ldap_msg.specs.ber_layout.Spellings.{Extends};
 ghost use Rattle.ldap_msg.specs.declared.kinds.Reply.TheVariants as reply;
+ghost use Rattle.ldap_msg.specs.declared.operations.Ending.TheVariants as ending;
 ghost use Rattle.page_core.specs.read_model.Selecting.{is_shown};
 ghost use Rattle.page_core.specs.read_model.Choosing.{is_chosen};
-ghost use Rattle.page_core.specs.read_model.SearchReplies.{replies_octets, nothing_found};
+ghost use Rattle.page_core.specs.read_model.SearchReplies.{nothing_found};
 ghost use Rattle.directory.specs.Asking.{view_in};
 ghost use Rattle.op_read.specs.Choices.{chooses};
 ghost use Rattle.op_read.specs.Seeing.{row_in, rows_at};
-ghost use Rattle.op_read.specs.Sending.{shown_at, shown_among, entry_octets, Goes, IsSent, ended_by};
+ghost use Rattle.op_read.specs.Sending.{shown_at, shown_among, Goes, IsSent, ended_by};
+ghost use Rattle.op_read.specs.Short.{Puts};
 
 use crate::candidates::Candidates;
 use crate::choosing::Selection;
@@ -22,7 +24,7 @@ use acdf_filters::aci_item::Permission;
 use dir_tree::dn_names::Dn;
 use dir_tree::{EntryNo, NoMemory};
 use directory::{Asking, Dir, Target, no_such_object, result_of};
-use ldap_msg::{LdapResult, Reply, ResultCode, SearchRequest, put_reply};
+use ldap_msg::{Ending, LdapResult, Reply, ResultCode, SearchRequest, put_reply};
 use page_core::read_model::filter_match::Prepared;
 use std::alloc::{AllocError, Global};
 
@@ -65,12 +67,20 @@ pub(crate) enum Found {
     TooMany(Option<EntryNo>),
 }
 
-/// Appends how the search ended. After the error, want of memory, `out` is as before.
-pub(crate) fn put_done(id: u32, ended: LdapResult, out: &mut Vec<u8>) -> Result<(), NoMemory>
-    ensures ok { OnOk result (out.new.items ≡ out.old.items ++ replies_octets id (reply.Done ended ∷ [])) }
+/// Appends the one reply. After the error, want of memory, or a content of 2^32 octets or more, `out` is as before.
+pub(crate) fn put_one(id: u32, reply: &Reply, out: &mut Vec<u8>) -> Result<(), NoMemory>
+    ensures ok { OnOk result (Puts id (reply.now ∷ []) out.old.items out.new.items) }
     ensures kept { Extends out.old.items out.new.items }
 {
-    put_reply(out, id, &Reply::Done(ended))
+    put_reply(out, id, reply)
+}
+
+/// Appends how the search ended. After the error, as above, `out` is as before.
+pub(crate) fn put_done(id: u32, ended: LdapResult, out: &mut Vec<u8>) -> Result<(), NoMemory>
+    ensures ok { OnOk result (Puts id (reply.Ended ending.Done ended ∷ []) out.old.items out.new.items) }
+    ensures kept { Extends out.old.items out.new.items }
+{
+    put_one(id, &Reply::Ended(Ending::Done, ended), out)
 }
 
 /// Whether the entry is selected, of those in the scope.
@@ -91,7 +101,7 @@ fn send<D: Dir>(
     out: &mut Vec<u8>,
 ) -> Result<bool, NoMemory>
     ensures ok { IfOk result (λ goes_on. Goes (rows_at (D.rows target.now.asking.now.dir.now) target.now.asking.now.who.now)
-        search.now.limit (entry_octets search.now.id search.now.request.now)
+        search.now.limit search.now.id search.now.request.now
         (row_in (D.rows target.now.asking.now.dir.now) target.now.asking.now.who.now target.now.entry.now ∷ [])
         sent.old out.old.items sent.new out.new.items goes_on) }
     ensures kept { Extends out.old.items out.new.items }
@@ -119,7 +129,7 @@ fn offer<D: Dir>(
     out: &mut Vec<u8>,
 ) -> Result<bool, NoMemory>
     ensures ok { IfOk result (λ goes_on. Goes (rows_at (D.rows target.now.asking.now.dir.now) target.now.asking.now.who.now)
-        search.now.limit (entry_octets search.now.id search.now.request.now)
+        search.now.limit search.now.id search.now.request.now
         (filter (is_shown search.now.request.now search.now.subentries)
         (row_in (D.rows target.now.asking.now.dir.now) target.now.asking.now.who.now target.now.entry.now ∷ []))
         sent.old out.old.items sent.new out.new.items goes_on) }
@@ -145,7 +155,7 @@ fn offer_at<D: Dir>(
     out: &mut Vec<u8>,
 ) -> Result<bool, NoMemory>
     ensures ok { IfOk result (λ goes_on. Goes (rows_at (D.rows asking.now.dir.now) asking.now.who.now) search.now.limit
-        (entry_octets search.now.id search.now.request.now)
+        search.now.id search.now.request.now
         (shown_at (is_shown search.now.request.now search.now.subentries)
         (D.rows asking.now.dir.now) asking.now.who.now number.0)
         sent.old out.old.items sent.new out.new.items goes_on) }
@@ -167,7 +177,7 @@ pub(crate) fn put_found<D: Dir>(
     out: &mut Vec<u8>,
 ) -> Result<Found, NoMemory>
     ensures ok { IfOk result (λ found. IsSent (rows_at (D.rows asking.now.dir.now) asking.now.who.now)
-        search.now.limit (entry_octets search.now.id search.now.request.now)
+        search.now.limit search.now.id search.now.request.now
         (shown_among (is_shown search.now.request.now search.now.subentries) (D.rows asking.now.dir.now)
         asking.now.who.now candidates.entry)
         out.old.items out.new.items found) }

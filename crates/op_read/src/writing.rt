@@ -1,17 +1,18 @@
 //! An entry of a search written as it is read from the tree, with no copy of its values before (RFC 4511 4.5.2).
 
-ghost use Rattle.std.specs.Prelude.{◌≡◌, ◌++◌, [], OnOk, OnErr, map, if◌then◌else◌};
+ghost use Rattle.std.specs.Prelude.{◌≡◌, ◌++◌, ◌∷◌, [], OnOk, OnErr, map, if◌then◌else◌};
 ghost use Rattle.dir_tree.specs.schema_tables.Attributes.{name_of};
 ghost use Rattle.ldap_msg.specs.ber_layout.Layouts.{writes};
 ghost use Rattle.ldap_msg.specs.ber_layout.Layouts.Layout.{End, Each};
 ghost use Rattle.ldap_msg.specs.ber_layout.Spellings.{Extends, element_octets};
 ghost use Rattle.ldap_msg.specs.operations.Operations.{response_tag};
 ghost use Rattle.ldap_msg.specs.Attributes.{attribute_layout, attribute_parts};
-ghost use Rattle.ldap_msg.specs.Replies.{response_for, reply_layout, reply_parts, reply_content, reply_octets};
+ghost use Rattle.ldap_msg.specs.Replies.{response_for, reply_layout, reply_parts, reply_content, reply_octets, IsShortReply};
 ghost use Rattle.page_core.specs.read_model.Choosing.{readable_values, sent_attribute, sent_attributes};
 ghost use Rattle.op_read.specs.Choices.{sent_of};
 ghost use Rattle.op_read.specs.Seeing.{row_in};
-ghost use Rattle.op_read.specs.Sending.{entry_octets};
+ghost use Rattle.op_read.specs.Sending.{sent_entries};
+ghost use Rattle.op_read.specs.Short.{Puts};
 ghost use Rattle.op_read.specs.Writing.{values_octets, attributes_octets, entry_of};
 
 use crate::choosing::{Selection, is_chosen};
@@ -224,6 +225,8 @@ fn put_message<D: Dir>(
     ensures ok { OnOk result (out.new.items ≡ out.old.items
         ++ reply_octets search.now.id (entry_of search.now.request.now
         (row_in (D.rows target.now.asking.now.dir.now) target.now.asking.now.who.now target.now.entry.now))) }
+    ensures short { OnOk result (IsShortReply search.now.id (entry_of search.now.request.now
+        (row_in (D.rows target.now.asking.now.dir.now) target.now.asking.now.who.now target.now.entry.now))) }
     ensures kept { Extends out.old.items out.new.items }
 {
     let start = out.len();
@@ -239,9 +242,9 @@ pub(crate) fn put_entry<D: Dir>(
     target: &Target<'_, '_, D>,
     out: &mut Vec<u8>,
 ) -> Result<(), NoMemory>
-    ensures ok { OnOk result (out.new.items ≡ out.old.items
-        ++ entry_octets search.now.id search.now.request.now
-        (row_in (D.rows target.now.asking.now.dir.now) target.now.asking.now.who.now target.now.entry.now)) }
+    ensures ok { OnOk result (Puts search.now.id (sent_entries search.now.request.now
+        (row_in (D.rows target.now.asking.now.dir.now) target.now.asking.now.who.now target.now.entry.now ∷ []))
+        out.old.items out.new.items) }
     ensures kept { Extends out.old.items out.new.items }
     ensures err { OnErr result (out.new.items ≡ out.old.items) }
 {

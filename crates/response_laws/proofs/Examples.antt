@@ -4,6 +4,7 @@ use Rattle.ldap_msg.specs.declared.operations.ResultCode.TheVariants as code
 use Rattle.ldap_msg.specs.declared.operations.Response.TheVariants as response
 use Rattle.ldap_msg.specs.declared.kinds.Request.TheVariants as request
 use Rattle.ldap_msg.specs.declared.kinds.Reply.TheVariants as reply
+use Rattle.ldap_msg.specs.declared.operations.Ending.TheVariants as ending
 use Rattle.read_model.specs.Views.{result_of}
 use Rattle.response_laws.specs.Responses.{Sent, Plain, PageEnd, kind_of, response_kind, EndsWithOne}
 
@@ -11,14 +12,14 @@ use Rattle.response_laws.specs.Responses.{Sent, Plain, PageEnd, kind_of, respons
 unbind : response_kind request.Unbind ≡ None
 unbind = refl
 
-page : kind_of (PageEnd []) ≡ response.Done
+page : kind_of (PageEnd []) ≡ response.Ended ending.Done
 page = refl
 
 -- an entry, and a search done
-listed : EndsWithOne response.Done (Plain (reply.Entry [] []) ∷ Plain (reply.Done (result_of code.Success)) ∷ [])
+listed : EndsWithOne (response.Ended ending.Done) (Plain (reply.Entry [] []) ∷ Plain (reply.Ended ending.Done (result_of code.Success)) ∷ [])
 listed = record {
   entries = Plain (reply.Entry [] []) ∷ [];
-  last = Plain (reply.Done (result_of code.Success));
+  last = Plain (reply.Ended ending.Done (result_of code.Success));
   are = refl;
   each = (refl, tt);
   ends = refl;
@@ -27,16 +28,16 @@ listed = record {
 
 -- two responses are not one, nor is none
 done : Sent
-done = Plain (reply.Delete (result_of code.Success))
+done = Plain (reply.Ended ending.Delete (result_of code.Success))
 
-two : EndsWithOne response.Delete (done ∷ done ∷ []) → ⊥
+two : EndsWithOne (response.Ended ending.Delete) (done ∷ done ∷ []) → ⊥
 two ends = more ends.entries ends.last (ends.others_none (λ same. cc)) ends.are
   where
     more : (entries : List Sent) (last : Sent) → entries ≡ [] → done ∷ done ∷ [] ≡ entries ++ last ∷ [] → ⊥
     more [] last none are = cc
     more (first ∷ rest) last none are = cc
 
-none : EndsWithOne response.Delete [] → ⊥
+none : EndsWithOne (response.Ended ending.Delete) [] → ⊥
 none ends = nothing ends.entries ends.last ends.are
   where
     nothing : (entries : List Sent) (last : Sent) → [] ≡ entries ++ last ∷ [] → ⊥

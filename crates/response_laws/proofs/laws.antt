@@ -1,3 +1,4 @@
 pub mod SearchLemmas
 pub mod ResponseLemmas
 pub mod ReadLemmas
+pub mod AgainLemmas

@@ -3,10 +3,15 @@ use Rattle.std.specs.Prelude.{◌≡◌, ◌≢◌, ℕ, List, [], ◌∷◌, �
 use Rattle.std.specs.List.{AllByRecursion}
 use Rattle.ldap_msg.specs.declared.kinds.Request.{Request}
 use Rattle.ldap_msg.specs.declared.kinds.Request.TheVariants as request
+use Rattle.ldap_msg.specs.declared.kinds.Update.TheVariants as update
 use Rattle.ldap_msg.specs.declared.kinds.Reply.{Reply}
+use Rattle.ldap_msg.specs.declared.kinds.Reply.TheVariants as reply
+use Rattle.ldap_msg.specs.declared.operations.ResultCode.TheVariants as code
+use Rattle.ldap_msg.specs.declared.kinds.Update.{Update}
+use Rattle.ldap_msg.specs.declared.operations.Ending.TheVariants as ending
 use Rattle.ldap_msg.specs.declared.operations.Response.{Response}
 use Rattle.ldap_msg.specs.declared.operations.Response.TheVariants as response
-use Rattle.ldap_msg.specs.Replies.{response_for, reply_octets}
+use Rattle.ldap_msg.specs.Replies.{response_for, reply_octets, reply_of, notice_name}
 use Rattle.ldap_msg.specs.Ranges.{IsWritableReply}
 use Rattle.ldap_msg.specs.Streams.{IsOuter}
 use Rattle.page_core.specs.Endings.{done, page_end}
@@ -42,16 +47,20 @@ pub record IsReadable (id : ℕ) (one : Sent) : Type 0 where
 abbrev pub kind_of : Sent → Response
 kind_of sent = response_for (reply_in sent)
 
+-- the kind of the response that a request for a change has
+abbrev pub change_kind : Update → Response
+change_kind (update.Modify modify) = response.Ended ending.Modify
+change_kind (update.Add add) = response.Ended ending.Add
+change_kind (update.Delete delete) = response.Ended ending.Delete
+change_kind (update.Rename rename) = response.Ended ending.Rename
+
 -- the kind of the response that a request has; an unbind and an abandon have none (4.3 and 4.11)
 abbrev pub response_kind : Request → Option Response
-response_kind (request.Bind bind) = Some response.Bind
+response_kind (request.Bind bind) = Some (response.Ended ending.Bind)
 response_kind request.Unbind = None
-response_kind (request.Search search) = Some response.Done
-response_kind (request.Modify modify) = Some response.Modify
-response_kind (request.Add add) = Some response.Add
-response_kind (request.Delete delete) = Some response.Delete
-response_kind (request.Rename rename) = Some response.Rename
-response_kind (request.Compare compare) = Some response.Compare
+response_kind (request.Search search) = Some (response.Ended ending.Done)
+response_kind (request.Update update) = Some (change_kind update)
+response_kind (request.Compare compare) = Some (response.Ended ending.Compare)
 response_kind (request.Abandon id) = None
 response_kind (request.Extended name value) = Some response.Extended
 
@@ -62,7 +71,7 @@ pub record EndsWithOne (kind : Response) (sent : List Sent) : Type 0 where
   pub are : sent ≡ entries ++ last ∷ []
   pub each : AllByRecursion (λ one. kind_of one ≡ response.Entry) entries
   pub ends : kind_of last ≡ kind
-  pub others_none : kind ≢ response.Done → entries ≡ []
+  pub others_none : kind ≢ response.Ended ending.Done → entries ≡ []
 
 -- the messages answer a request whose response is of this kind; one that has none is answered by no message
 abbrev pub AreResponses : Option Response → List Sent → Type 0
@@ -74,3 +83,17 @@ pub record IsAnswered (asked : Request) (id : ℕ) (octets : List ℕ) : Type 0 
   pub sent : List Sent
   pub responses : AreResponses (response_kind asked) sent
   pub written : octets ≡ flat_map (octets_of id) sent
+
+-- the notice of disconnection (4.4.1): an extended response of its own name with protocolError, which is sent with the
+-- messageID 0
+abbrev pub notice : Reply
+notice = reply.Extended (record { code = code.ProtocolError; matched = [] }) (Some notice_name) None
+
+-- each of them is read again as its reply, with this messageID
+abbrev pub AreReadAgain : ℕ → List Sent → Type 0
+AreReadAgain id sent = AllByRecursion (λ one. reply_of (octets_of id one) ≡ Some (id, reply_in one)) sent
+
+-- so the octets answer the request, and each message of them is read again
+pub record IsReadAnswer (asked : Request) (id : ℕ) (octets : List ℕ) : Type 0 where
+  pub answers : IsAnswered asked id octets
+  pub again : AreReadAgain id answers.sent

@@ -5,7 +5,9 @@ use Rattle.session_model.specs.ber_elements.Integer.{int_at, int_octets}
 use Rattle.session_model.specs.ber_elements.write.Spelling.{length_octets}
 use Rattle.session_model.specs.ldap_msg.declared.kinds.Auth.TheVariants.{Simple, Other}
 use Rattle.session_model.specs.ldap_msg.declared.kinds.Request.TheVariants as request
+use Rattle.session_model.specs.ldap_msg.declared.kinds.Update.TheVariants as update
 use Rattle.session_model.specs.ldap_msg.declared.kinds.Reply.TheVariants as reply
+use Rattle.session_model.specs.ldap_msg.declared.operations.Ending.TheVariants as ending
 use Rattle.session_model.specs.ldap_msg.Streams.{framed, frame_at, whole_of, rest_behind, whole, rest_of, is_broken}
 use Rattle.session_model.specs.ldap_msg.reading.Messages.{message_in, message_of}
 use Rattle.session_model.specs.ldap_msg.declared.operations.ResultCode.TheVariants as code
@@ -53,32 +55,32 @@ abbrev other_kind : List ℕ
 other_kind = codes "1.2.3"
 
 version_two : answered [] somebody [] (request.Bind (record { version = 2; name = []; auth = Simple [] }))
-    ≡ record { replies = reply.Bind (result_of code.ProtocolError) ∷ []; cookie = None; changes = []; entries = []; who = nobody }
+    ≡ record { replies = reply.Ended ending.Bind (result_of code.ProtocolError) ∷ []; cookie = None; changes = []; entries = []; who = nobody }
 unfolding bind_answer
 version_two = refl
 
 another_method : answered [] somebody [] (request.Bind (record { version = 3; name = []; auth = Other 3 }))
-    ≡ record { replies = reply.Bind (result_of code.AuthMethodNotSupported) ∷ []; cookie = None; changes = []; entries = []; who = nobody }
+    ≡ record { replies = reply.Ended ending.Bind (result_of code.AuthMethodNotSupported) ∷ []; cookie = None; changes = []; entries = []; who = nobody }
 unfolding bind_answer
 another_method = refl
 
 critical_bind : answered [] somebody (record { kind = other_kind; critical = true; value = None } ∷ []) (request.Bind (record { version = 3; name = []; auth = Simple [] }))
-    ≡ record { replies = reply.Bind (result_of code.UnavailableCriticalExtension) ∷ []; cookie = None; changes = []; entries = []; who = nobody }
+    ≡ record { replies = reply.Ended ending.Bind (result_of code.UnavailableCriticalExtension) ∷ []; cookie = None; changes = []; entries = []; who = nobody }
 critical_bind = refl
 
 -- a control of subentries is known in a search alone
-critical_delete : answered [] somebody (record { kind = codes "1.3.6.1.4.1.4203.1.10.1"; critical = true; value = None } ∷ []) (request.Delete (record { name = [] }))
-    ≡ record { replies = reply.Delete (result_of code.UnavailableCriticalExtension) ∷ []; cookie = None; changes = []; entries = []; who = somebody }
+critical_delete : answered [] somebody (record { kind = codes "1.3.6.1.4.1.4203.1.10.1"; critical = true; value = None } ∷ []) (request.Update (update.Delete (record { name = [] })))
+    ≡ record { replies = reply.Ended ending.Delete (result_of code.UnavailableCriticalExtension) ∷ []; cookie = None; changes = []; entries = []; who = somebody }
 critical_delete = refl
 
-uncritical_delete : answered [] somebody (record { kind = other_kind; critical = false; value = None } ∷ []) (request.Delete (record { name = [] }))
-    ≡ record { replies = reply.Delete (result_of code.UnwillingToPerform) ∷ []; cookie = None; changes = []; entries = []; who = somebody }
+uncritical_delete : answered [] somebody (record { kind = other_kind; critical = false; value = None } ∷ []) (request.Update (update.Delete (record { name = [] })))
+    ≡ record { replies = reply.Ended ending.Delete (result_of code.UnwillingToPerform) ∷ []; cookie = None; changes = []; entries = []; who = somebody }
 unfolding deleted read_name text_fault resolve written_of
 uncritical_delete = refl
 
 -- the root is no entry, and isn't added either
-add_root : answered [] somebody [] (request.Add (record { name = []; attributes = [] }))
-    ≡ record { replies = reply.Add (result_of code.UnwillingToPerform) ∷ []; cookie = None; changes = []; entries = []; who = somebody }
+add_root : answered [] somebody [] (request.Update (update.Add (record { name = []; attributes = [] })))
+    ≡ record { replies = reply.Ended ending.Add (result_of code.UnwillingToPerform) ∷ []; cookie = None; changes = []; entries = []; who = somebody }
 unfolding added read_name text_fault resolve written_of
 add_root = refl
 
@@ -153,11 +155,11 @@ abbrev a_search : SearchRequest
 a_search = record { base = []; scope = BaseObject; size = 0; kinds_only = false; filter = Present []; selection = [] }
 
 critical_search : answered [] nobody (record { kind = other_kind; critical = true; value = None } ∷ []) (request.Search a_search)
-    ≡ record { replies = reply.Done (result_of code.UnavailableCriticalExtension) ∷ []; cookie = None; changes = []; entries = []; who = nobody }
+    ≡ record { replies = reply.Ended ending.Done (result_of code.UnavailableCriticalExtension) ∷ []; cookie = None; changes = []; entries = []; who = nobody }
 critical_search = refl
 
 search_twice : answered [] nobody (subentries_with None ∷ subentries_with None ∷ []) (request.Search a_search)
-    ≡ record { replies = reply.Done (result_of code.ProtocolError) ∷ []; cookie = None; changes = []; entries = []; who = nobody }
+    ≡ record { replies = reply.Ended ending.Done (result_of code.ProtocolError) ∷ []; cookie = None; changes = []; entries = []; who = nobody }
 search_twice = refl
 
 -- so is one with two controls of pages, or with one without a value; none asks for no page
@@ -165,7 +167,7 @@ abbrev page_with : Option (List ℕ) → Control
 page_with value = record { kind = codes "1.2.840.113556.1.4.319"; critical = false; value = value }
 
 page_twice : answered [] nobody (page_with None ∷ page_with None ∷ []) (request.Search a_search)
-    ≡ record { replies = reply.Done (result_of code.ProtocolError) ∷ []; cookie = None; changes = []; entries = []; who = nobody }
+    ≡ record { replies = reply.Ended ending.Done (result_of code.ProtocolError) ∷ []; cookie = None; changes = []; entries = []; who = nobody }
 page_twice = refl
 
 page_absent : page_asked (page_with None ∷ []) ≡ None
@@ -239,10 +241,10 @@ queues_beside = refl
 
 -- the record of a delete that is made, and none of one that is refused, nor of a search; and none is to be stored where no
 -- changes are kept
-recorded_delete : recorded (Made []) (request.Delete (record { name = codes "o=A" })) ≡ record_text (request.Delete (record { name = codes "o=A" }))
+recorded_delete : recorded (Made []) (request.Update (update.Delete (record { name = codes "o=A" }))) ≡ record_text (request.Update (update.Delete (record { name = codes "o=A" })))
 recorded_delete = refl
 
-refused_delete : recorded (Refused (result_of code.NoSuchObject)) (request.Delete (record { name = codes "o=A" })) ≡ []
+refused_delete : recorded (Refused (result_of code.NoSuchObject)) (request.Update (update.Delete (record { name = codes "o=A" }))) ≡ []
 refused_delete = refl
 
 recorded_search : recorded (Made []) (request.Search a_search) ≡ []
@@ -250,11 +252,11 @@ unfolding record_text
 recorded_search = refl
 
 -- a change that is refused is answered so, and nothing else comes of it; one that is made is answered with success
-refused_change : changing [] nobody (request.Delete (record { name = codes "o=A" })) (Refused (result_of code.NoSuchObject))
-    ≡ replying [] nobody (reply.Delete (result_of code.NoSuchObject) ∷ [])
+refused_change : changing [] nobody (update.Delete (record { name = codes "o=A" })) (Refused (result_of code.NoSuchObject))
+    ≡ replying [] nobody (reply.Ended ending.Delete (result_of code.NoSuchObject) ∷ [])
 refused_change = refl
 
-made_change : (changing [] nobody (request.Delete (record { name = codes "o=A" })) (Made [])).replies ≡ reply.Delete (result_of code.Success) ∷ []
+made_change : (changing [] nobody (update.Delete (record { name = codes "o=A" })) (Made [])).replies ≡ reply.Ended ending.Delete (result_of code.Success) ∷ []
 made_change = refl
 
 unkept_delete : kept_changes false (codes "dn: o=A\n") ≡ []

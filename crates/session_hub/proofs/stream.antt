@@ -1,3 +1,4 @@
+pub mod EachLemmas
 pub mod StreamLemmas
 pub mod FirstLemmas
 mod FirstExamples

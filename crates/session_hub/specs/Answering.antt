@@ -5,11 +5,15 @@ use Rattle.session_model.specs.ldap_msg.declared.kinds.BindRequest.{BindRequest}
 use Rattle.session_model.specs.ldap_msg.declared.kinds.SearchRequest.{SearchRequest}
 use Rattle.session_model.specs.ldap_msg.declared.kinds.Request.{Request}
 use Rattle.session_model.specs.ldap_msg.declared.kinds.Request.TheVariants as request
+use Rattle.session_model.specs.ldap_msg.declared.kinds.Update.{Update}
+use Rattle.session_model.specs.ldap_msg.declared.kinds.Update.TheVariants as update
 use Rattle.session_model.specs.ldap_msg.declared.kinds.Control.{Control}
 use Rattle.session_model.specs.ldap_msg.declared.kinds.Message.{Message}
 use Rattle.session_model.specs.ldap_msg.declared.kinds.LdapResult.{LdapResult}
 use Rattle.session_model.specs.ldap_msg.declared.kinds.Reply.{Reply}
 use Rattle.session_model.specs.ldap_msg.declared.kinds.Reply.TheVariants as reply
+use Rattle.session_model.specs.ldap_msg.declared.operations.Ending.{Ending}
+use Rattle.session_model.specs.ldap_msg.declared.operations.Ending.TheVariants as ending
 use Rattle.session_model.specs.ldap_msg.declared.operations.ResultCode.{ResultCode}
 use Rattle.session_model.specs.ldap_msg.declared.operations.ResultCode.TheVariants as code
 use Rattle.session_model.specs.ldap_msg.reading.Messages.{message_of}
@@ -32,16 +36,20 @@ use Rattle.session_hub.specs.Controls.{is_refused, subentries_asked, page_asked}
 use Rattle.session_hub.specs.Limiting.{limited_read}
 use Rattle.session_hub.specs.WhoAmI.{extended_replies}
 
+-- the kind of the response to a request for a change
+abbrev pub ending_for : Update → Ending
+ending_for (update.Modify modify) = ending.Modify
+ending_for (update.Add add) = ending.Add
+ending_for (update.Delete delete) = ending.Delete
+ending_for (update.Rename rename) = ending.Rename
+
 -- a result as the response to a request; none to an unbind or an abandon
 abbrev pub response_to : Request → LdapResult → Option Reply
-response_to (request.Bind bind) result = Some (reply.Bind result)
+response_to (request.Bind bind) result = Some (reply.Ended ending.Bind result)
 response_to request.Unbind result = None
-response_to (request.Search search) result = Some (reply.Done result)
-response_to (request.Modify modify) result = Some (reply.Modify result)
-response_to (request.Add add) result = Some (reply.Add result)
-response_to (request.Delete delete) result = Some (reply.Delete result)
-response_to (request.Rename rename) result = Some (reply.Rename result)
-response_to (request.Compare compare) result = Some (reply.Compare result)
+response_to (request.Search search) result = Some (reply.Ended ending.Done result)
+response_to (request.Update update) result = Some (reply.Ended (ending_for update) result)
+response_to (request.Compare compare) result = Some (reply.Ended ending.Compare result)
 response_to (request.Abandon id) result = None
 response_to (request.Extended name value) result = Some (reply.Extended result None None)
 
@@ -59,10 +67,7 @@ abbrev pub asking : Requester → Request → Requester
 asking who (request.Bind bind) = nobody
 asking who request.Unbind = who
 asking who (request.Search search) = who
-asking who (request.Modify modify) = who
-asking who (request.Add add) = who
-asking who (request.Delete delete) = who
-asking who (request.Rename rename) = who
+asking who (request.Update update) = who
 asking who (request.Compare compare) = who
 asking who (request.Abandon id) = who
 asking who (request.Extended name value) = who
@@ -94,7 +99,7 @@ paging entries who paged = record { replies = paged.replies; cookie = paged.cook
 -- a bind over the entries
 abbrev pub bound : DirectoryEntries → BindRequest → Operated
 bound entries bind = record {
-  replies = reply.Bind (result_of (bind_answer entries bind).code) ∷ [];
+  replies = reply.Ended ending.Bind (result_of (bind_answer entries bind).code) ∷ [];
   cookie = None;
   changes = [];
   entries = entries;
@@ -112,41 +117,32 @@ recorded (Refused refusal) asked = []
 recorded (Made after) asked = record_text asked
 
 -- a change of the entries that a request asks for
-abbrev pub changing : DirectoryEntries → Requester → Request → Changed → Operated
+abbrev pub changing : DirectoryEntries → Requester → Update → Changed → Operated
 changing entries who asked changed = record {
-  replies = replies_in (response_to asked (change_result changed));
+  replies = reply.Ended (ending_for asked) (change_result changed) ∷ [];
   cookie = None;
-  changes = recorded changed asked;
+  changes = recorded changed (request.Update asked);
   entries = left_by entries changed;
   who = who;
 }
 
--- the change that a request asks for; the entries stay where it asks for none
-abbrev pub change_of : DirectoryEntries → Requester → Request → Changed
-change_of entries who (request.Bind bind) = Made entries
-change_of entries who request.Unbind = Made entries
-change_of entries who (request.Search search) = Made entries
-change_of entries who (request.Modify modify) = modified entries who modify
-change_of entries who (request.Add add) = added entries who add
-change_of entries who (request.Delete delete) = deleted entries who delete
-change_of entries who (request.Rename rename) = renamed entries who rename
-change_of entries who (request.Compare compare) = Made entries
-change_of entries who (request.Abandon id) = Made entries
-change_of entries who (request.Extended name value) = Made entries
+-- the change that a request asks for
+abbrev pub change_of : DirectoryEntries → Requester → Update → Changed
+change_of entries who (update.Modify modify) = modified entries who modify
+change_of entries who (update.Add add) = added entries who add
+change_of entries who (update.Delete delete) = deleted entries who delete
+change_of entries who (update.Rename rename) = renamed entries who rename
 
--- an operation that no control refuses: a search and a compare read what the requester sees of the entries, a modify, an
--- add, a delete and a rename change them, and an extended operation may ask who the requester is
+-- an operation that no control refuses: a search and a compare read what the requester sees of the entries, a change changes
+-- them, and an extended operation may ask who the requester is
 abbrev pub operated : DirectoryEntries → Requester → List Control → Request → Operated
 operated entries who controls (request.Bind bind) = bound entries bind
 operated entries who controls request.Unbind = replying entries who []
 operated entries who controls (request.Search search) =
     paging entries who (searched (view_of entries who) search (subentries_asked controls) (page_asked controls))
-operated entries who controls (request.Modify modify) = changing entries who (request.Modify modify) (modified entries who modify)
-operated entries who controls (request.Add add) = changing entries who (request.Add add) (added entries who add)
-operated entries who controls (request.Delete delete) = changing entries who (request.Delete delete) (deleted entries who delete)
-operated entries who controls (request.Rename rename) = changing entries who (request.Rename rename) (renamed entries who rename)
+operated entries who controls (request.Update update) = changing entries who update (change_of entries who update)
 operated entries who controls (request.Compare compare) =
-    replying entries who (reply.Compare (compare_result (view_of entries who) compare) ∷ [])
+    replying entries who (reply.Ended ending.Compare (compare_result (view_of entries who) compare) ∷ [])
 operated entries who controls (request.Abandon id) = replying entries who []
 operated entries who controls (request.Extended name value) = replying entries who (extended_replies who name value)
 
@@ -164,10 +160,7 @@ abbrev pub is_unbind : Request → Bool
 is_unbind (request.Bind bind) = false
 is_unbind request.Unbind = true
 is_unbind (request.Search search) = false
-is_unbind (request.Modify modify) = false
-is_unbind (request.Add add) = false
-is_unbind (request.Delete delete) = false
-is_unbind (request.Rename rename) = false
+is_unbind (request.Update update) = false
 is_unbind (request.Compare compare) = false
 is_unbind (request.Abandon id) = false
 is_unbind (request.Extended name value) = false

@@ -2,7 +2,7 @@
 use Rattle.std.specs.Prelude.{◌≡◌, ◌≤◌, ◌<◌, ◌+◌, ◌⊎◌, ℕ, Bool, true, false, List, [], ◌++◌, length, drop, Option, Some, None}
 use Rattle.session_model.specs.ldap_msg.Streams.{whole, rest_of}
 use Rattle.session_model.specs.ldap_msg.Replies.{notice_octets}
-use Rattle.session_model.specs.Rules.{Answered, after_octets}
+use Rattle.session_model.specs.Rules.{Answered, after_octets, up_to}
 use Rattle.session_model.specs.Kept.{speech}
 use Rattle.session_hub.specs.Parties.{DirectoryEntries, Requester}
 use Rattle.session_hub.specs.Terms.{Terms}
@@ -11,6 +11,7 @@ use Rattle.session_hub.specs.declared.spoken.SpeechEnd.{SpeechEnd}
 use Rattle.session_hub.specs.declared.spoken.SpeechEnd.TheVariants.{StaysOpen, Closes, IsCut, IsFull}
 use Rattle.session_hub.specs.Outgoing.{Put}
 use Rattle.session_hub.specs.Answering.{rules, Operated, sent_octets}
+use Rattle.session_hub.specs.ShortAnswers.{AreShortReplies, AreAnsweredShort}
 use Rattle.session_hub.specs.Rooms.{HasRoom, queued_after}
 
 -- the octets put of replies and of changes, the entries and the requester left, and whether the connection closes are those of
@@ -22,10 +23,11 @@ pub record Gives (answered : Answered DirectoryEntries Requester) (old new : Put
   pub asker : who ≡ answered.who
   pub closed : closes ≡ answered.closes
 
--- what was sent is the replies of an operation to the message of this number, and the entries and the requester are those
--- that it leaves
+-- what was sent is the replies of an operation to the message of this number, each of which is short, and the entries and the
+-- requester are those that it leaves
 pub record Sends (id : ℕ) (came : Operated) (old new : List ℕ) (entries : DirectoryEntries) (who : Requester) : Type 0 where
   pub said : new ≡ old ++ sent_octets id came.replies came.cookie
+  pub short : AreShortReplies id came
   pub left : entries ≡ came.entries
   pub asker : who ≡ came.who
 
@@ -50,7 +52,8 @@ cut_at IsFull answered = Some answered
 -- a stream is answered: what was sent is what is said to it, up to where it was cut; where the connection stays open, so
 -- many octets were read, and a cut behind all of its messages would leave the same and close; where it ends since the queue
 -- is full, the queue is longer than the room, and it never was before a message that was answered, but for the first; the
--- messages that were answered are among those of the stream, and behind their answers there is nothing but, it may be, a notice
+-- messages that were answered are among those of the stream, each of their replies is short, and behind their answers there is
+-- nothing but, it may be, a notice
 pub record Speaks (terms : Terms) (room : ℕ) (before : DirectoryEntries) (asks : Requester) (stream : List ℕ) (old new : Put) (entries : DirectoryEntries) (who : Requester) (spoken : Spoken) : Type 0 where
   pub gives : Gives (said_to terms (cut_at spoken.end spoken.answered) before asks stream) old new entries who (closes_at spoken.end)
   pub within : spoken.read ≤ length stream
@@ -59,6 +62,7 @@ pub record Speaks (terms : Terms) (room : ℕ) (before : DirectoryEntries) (asks
   pub full : spoken.end ≡ IsFull → room < length new.replies
   pub spare : HasRoom terms room before asks stream old.replies spoken.answered
   pub complete : spoken.answered ≤ length (whole stream)
+  pub short : AreAnsweredShort terms before asks (up_to (cut_at spoken.end spoken.answered) (whole stream))
   pub ending : List ℕ
   pub queued : new.replies ≡ queued_after terms before asks stream old.replies spoken.answered ++ ending
   pub notice : (ending ≡ []) ⊎ (ending ≡ notice_octets)
@@ -77,7 +81,7 @@ behind answered None = None
 behind answered (Some count) = Some (answered + count)
 
 -- how far a stream was answered: whatever cut may follow, what was said so far and what is said to the rest is what is
--- said to the stream
+-- said to the stream, and each of its replies is short where those to the rest are
 pub record SaysSoFar (terms : Terms) (room : ℕ) (before : DirectoryEntries) (asks : Requester) (stream : List ℕ) (old now : Put) (entries : DirectoryEntries) (who : Requester) (read answered : ℕ) : Type 0 where
   pub more : Put
   pub said_more : now.replies ≡ old.replies ++ more.replies
@@ -88,3 +92,5 @@ pub record SaysSoFar (terms : Terms) (room : ℕ) (before : DirectoryEntries) (a
   pub rest : rest_of (drop read stream) ≡ rest_of stream
   pub said : (cut : Option ℕ) → said_to terms (behind answered cut) before asks stream ≡ after_octets more.replies more.changes (said_to terms cut entries who (drop read stream))
   pub spare : HasRoom terms room before asks stream old.replies answered
+  pub short : (cut : Option ℕ) → AreAnsweredShort terms entries who (up_to cut (whole (drop read stream)))
+      → AreAnsweredShort terms before asks (up_to (behind answered cut) (whole stream))

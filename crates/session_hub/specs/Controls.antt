@@ -25,10 +25,7 @@ abbrev pub is_search : Request → Bool
 is_search (request.Bind bind) = false
 is_search request.Unbind = false
 is_search (request.Search search) = true
-is_search (request.Modify modify) = false
-is_search (request.Add add) = false
-is_search (request.Delete delete) = false
-is_search (request.Rename rename) = false
+is_search (request.Update update) = false
 is_search (request.Compare compare) = false
 is_search (request.Abandon id) = false
 is_search (request.Extended name value) = false

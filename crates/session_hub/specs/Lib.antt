@@ -5,6 +5,7 @@ pub mod Controls
 pub mod Limiting
 pub mod WhoAmI
 pub mod Answering
+pub mod ShortAnswers
 pub mod Rooms
 pub mod FirstAnswers
 pub mod connection

@@ -21,10 +21,7 @@ abbrev pub limited_request : ℕ → Request → Request
 limited_request limit (request.Bind bind) = request.Bind bind
 limited_request limit request.Unbind = request.Unbind
 limited_request limit (request.Search search) = request.Search (limited limit search)
-limited_request limit (request.Modify modify) = request.Modify modify
-limited_request limit (request.Add add) = request.Add add
-limited_request limit (request.Delete delete) = request.Delete delete
-limited_request limit (request.Rename rename) = request.Rename rename
+limited_request limit (request.Update update) = request.Update update
 limited_request limit (request.Compare compare) = request.Compare compare
 limited_request limit (request.Abandon id) = request.Abandon id
 limited_request limit (request.Extended name value) = request.Extended name value
@@ -56,14 +53,8 @@ pub record KeepsAsked (limit : ℕ) (asked now : Message) : Type 0 where
 
 -- an entry, among the replies to a search
 abbrev pub is_entry : Reply → Bool
-is_entry (reply.Bind result) = false
 is_entry (reply.Entry name attributes) = true
-is_entry (reply.Done result) = false
-is_entry (reply.Modify result) = false
-is_entry (reply.Add result) = false
-is_entry (reply.Delete result) = false
-is_entry (reply.Rename result) = false
-is_entry (reply.Compare result) = false
+is_entry (reply.Ended ending result) = false
 is_entry (reply.Extended result name value) = false
 
 -- how many entries are among replies

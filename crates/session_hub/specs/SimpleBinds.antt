@@ -41,10 +41,7 @@ abbrev pub credentials_in : Request → Option Credentials
 credentials_in (request.Bind bind) = credentials_of (Some bind)
 credentials_in request.Unbind = None
 credentials_in (request.Search search) = None
-credentials_in (request.Modify modify) = None
-credentials_in (request.Add add) = None
-credentials_in (request.Delete delete) = None
-credentials_in (request.Rename rename) = None
+credentials_in (request.Update update) = None
 credentials_in (request.Compare compare) = None
 credentials_in (request.Abandon id) = None
 credentials_in (request.Extended name value) = None

@@ -29,10 +29,7 @@ abbrev pub reads_outside : RdnSequence → Request → Bool
 reads_outside top (request.Bind bind) = not (is_read_within top (read_name bind.name))
 reads_outside top request.Unbind = true
 reads_outside top (request.Search search) = true
-reads_outside top (request.Modify modify) = false
-reads_outside top (request.Add add) = false
-reads_outside top (request.Delete delete) = false
-reads_outside top (request.Rename rename) = false
+reads_outside top (request.Update update) = false
 reads_outside top (request.Compare compare) = true
 reads_outside top (request.Abandon id) = true
 reads_outside top (request.Extended name value) = true

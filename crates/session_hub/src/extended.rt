@@ -5,7 +5,7 @@ ghost use Rattle.dir_tree.specs.dn_names.Printing.{print_name};
 ghost use Rattle.session_model.specs.ldap_msg.declared.kinds.Reply.TheVariants as reply;
 ghost use Rattle.session_model.specs.ldap_msg.declared.operations.ResultCode.TheVariants as code;
 ghost use Rattle.op_read.specs.read_model.Views.{result_of as result_with};
-ghost use Rattle.op_read.specs.read_model.SearchReplies.{replies_octets};
+ghost use Rattle.op_read.specs.Short.{Puts};
 ghost use Rattle.session_hub.specs.WhoAmI.{authz_id, asks_who, extended_replies};
 
 use crate::results::result_of;
@@ -47,8 +47,9 @@ fn authz_id(alloc: Global, who: &Requester) -> Result<Octets, AllocError>
 
 /// Appends who the requester is.
 fn put_who(alloc: Global, who: &Requester, id: u32, out: &mut Vec<u8>) -> Result<(), AllocError>
-    ensures ok { OnOk result (out.new.items ≡ out.old.items ++ replies_octets id
-        (reply.Extended (result_with code.Success) None (Some (authz_id who.now)) ∷ [])) }
+    ensures ok { OnOk result (Puts id
+        (reply.Extended (result_with code.Success) None (Some (authz_id who.now)) ∷ [])
+        out.old.items out.new.items) }
     ensures err { OnErr result (out.new.items ≡ out.old.items) }
 {
     let found = authz_id(alloc, who)?;
@@ -66,8 +67,9 @@ pub fn answer_extended(
     value: &Option<Octets>,
     out: &mut Vec<u8>,
 ) -> Result<(), AllocError>
-    ensures ok { OnOk result (out.new.items ≡ out.old.items
-        ++ replies_octets id (extended_replies who.now name.now value.now)) }
+    ensures ok { OnOk result (Puts id
+        (extended_replies who.now name.now value.now)
+        out.old.items out.new.items) }
     ensures err { OnErr result (out.new.items ≡ out.old.items) }
 {
     if asks_who(name, value) {

@@ -4,18 +4,21 @@ ghost use Rattle.std.specs.Prelude.{◌≡◌, ◌≤◌, ◌+◌, ◌++◌, ℕ
 ghost use Rattle.dir_tree.specs.tree.Numbered.{entries_of};
 ghost use Rattle.session_model.specs.ldap_msg.Streams.{frame_at};
 ghost use Rattle.session_model.specs.ldap_msg.declared.operations.ResultCode.TheVariants as code;
-ghost use Rattle.op_read.specs.read_model.Views.{view_of};
-ghost use Rattle.op_read.specs.read_model.SearchReplies.{replies_octets};
+ghost use Rattle.op_read.specs.read_model.Views.{view_of, result_of as result_with};
+ghost use Rattle.op_read.specs.Short.{IsShortPage, Puts};
 ghost use Rattle.op_read.specs.read_model.CompareReplies.{compare_result};
 ghost use Rattle.session_model.specs.ldap_msg.declared.kinds.Reply.TheVariants as reply;
+ghost use Rattle.session_model.specs.ldap_msg.declared.kinds.Request.TheVariants as request;
+ghost use Rattle.session_model.specs.ldap_msg.declared.operations.Ending.TheVariants as ending;
 ghost use Rattle.change_laws.specs.op_add_delete.adding.Updates.{IsChanged};
 ghost use Rattle.change_records.specs.Written.{record_text};
 ghost use Rattle.session_hub.specs.Parties.{DirectoryEntries, Requester};
 ghost use Rattle.op_read.specs.page_core.Pages.{ended as unread};
 ghost use Rattle.session_hub.specs.Controls.{subentries_asked, page_asked};
-ghost use Rattle.session_hub.specs.Answering.{rules, response_to as response_of, replies_in, ended_with, asking, searched, answer_octets, change_of, changing, kept_changes, operated, answered, is_unbind, answer_read};
+ghost use Rattle.session_hub.specs.Answering.{rules, ending_for, response_to as response_of, replies_in, ended_with, asking, searched, answer_octets, change_of, changing, kept_changes, operated, answered, is_unbind, answer_read};
 ghost use Rattle.session_hub.specs.Outgoing.{put_in};
 ghost use Rattle.session_hub.specs.Answers.{Gives, Sends};
+ghost use Rattle.session_hub.specs.ShortAnswers.{IsShortAnswer, IsAnsweredShort};
 ghost use Rattle.session_hub.specs.FirstAnswers.{IsAnonymousBind};
 ghost use Rattle.session_hub.specs.Limiting.{limited_message, lesser_limit};
 
@@ -34,31 +37,41 @@ use op_read::acdf_filters::Requester;
 use op_read::directory::Dir;
 use op_read::{compare, search, search_page};
 use session_model::ldap_msg::{
-    CompareRequest, Frame, LdapResult, Message, ReadFault, Reply, Request, ResultCode,
-    SearchRequest, put_notice, put_reply, read_request,
+    CompareRequest, Ending, Frame, LdapResult, Message, ReadFault, Reply, Request, ResultCode,
+    SearchRequest, Update, put_notice, put_reply, read_request,
 };
 use std::alloc::{AllocError, Global};
+
+/// The kind of the response to a request for a change.
+fn ending_for(update: &Update) -> Ending
+    ensures { result ≡ ending_for update.now }
+{
+    match update {
+        Update::Modify(_) => Ending::Modify,
+        Update::Add(_) => Ending::Add,
+        Update::Delete(_) => Ending::Delete,
+        Update::Rename(_) => Ending::Rename,
+    }
+}
 
 fn response_to(request: &Request, ended: LdapResult) -> Option<Reply>
     ensures { result ≡ response_of request.now ended }
 {
     match request {
         Request::Unbind | Request::Abandon(_) => None,
-        Request::Bind(_) => Some(Reply::Bind(ended)),
-        Request::Search(_) => Some(Reply::Done(ended)),
-        Request::Modify(_) => Some(Reply::Modify(ended)),
-        Request::Add(_) => Some(Reply::Add(ended)),
-        Request::Delete(_) => Some(Reply::Delete(ended)),
-        Request::Rename(_) => Some(Reply::Rename(ended)),
-        Request::Compare(_) => Some(Reply::Compare(ended)),
+        Request::Bind(_) => Some(Reply::Ended(Ending::Bind, ended)),
+        Request::Search(_) => Some(Reply::Ended(Ending::Done, ended)),
+        Request::Update(update) => Some(Reply::Ended(ending_for(update), ended)),
+        Request::Compare(_) => Some(Reply::Ended(Ending::Compare, ended)),
         Request::Extended(_, _) => Some(Reply::Extended(ended, None, None)),
     }
 }
 
 /// Appends the response with this result, if the request has one.
 fn put_response(message: &Message, ended: LdapResult, out: &mut Vec<u8>) -> Result<(), AllocError>
-    ensures ok { OnOk result (out.new.items ≡ out.old.items
-        ++ replies_octets message.now.id (replies_in (response_of message.now.request ended))) }
+    ensures ok { OnOk result (Puts message.now.id
+        (replies_in (response_of message.now.request ended))
+        out.old.items out.new.items) }
     ensures err { OnErr result (out.new.items ≡ out.old.items) }
 {
     match response_to(&message.request, ended) {
@@ -74,8 +87,9 @@ fn put_ended(
     code: ResultCode,
     out: &mut Vec<u8>,
 ) -> Result<(), AllocError>
-    ensures ok { OnOk result (out.new.items
-        ≡ out.old.items ++ replies_octets message.now.id (ended_with code message.now.request)) }
+    ensures ok { OnOk result (Puts message.now.id
+        (ended_with code message.now.request)
+        out.old.items out.new.items) }
     ensures err { OnErr result (out.new.items ≡ out.old.items) }
 {
     put_response(message, result_of(alloc, code), out)
@@ -93,10 +107,11 @@ fn begin_asking(who: &mut Requester, request: &Request)
 /// Appends that a search's controls can't be read.
 fn put_unread(alloc: Global, id: u32, out: &mut Vec<u8>) -> Result<(), AllocError>
     ensures ok { OnOk result (out.new.items ≡ out.old.items ++ answer_octets id (unread code.ProtocolError)) }
+    ensures short { OnOk result (IsShortPage id (unread code.ProtocolError)) }
     ensures err { OnErr result (out.new.items ≡ out.old.items) }
 {
     let ended = result_of(alloc, ResultCode::ProtocolError);
-    put_reply(out, id, &Reply::Done(ended))
+    put_reply(out, id, &Reply::Ended(Ending::Done, ended))
 }
 
 /// Appends the replies to a search, or to the page of it that its controls ask for, among subentries or others.
@@ -111,6 +126,9 @@ fn put_asked<D: Dir>(
     out: &mut Vec<u8>,
 ) -> Result<(), AllocError>
     ensures ok { OnOk result (out.new.items ≡ out.old.items ++ answer_octets message.now.id
+        (searched (view_of (entries_of (D.rows dir.now)) who.now) request.now (Some subentries)
+        (page_asked message.now.controls))) }
+    ensures short { OnOk result (IsShortPage message.now.id
         (searched (view_of (entries_of (D.rows dir.now)) who.now) request.now (Some subentries)
         (page_asked message.now.controls))) }
     ensures err { OnErr result (out.new.items ≡ out.old.items) }
@@ -142,6 +160,9 @@ fn put_search<D: Dir>(
     ensures ok { OnOk result (out.new.items ≡ out.old.items ++ answer_octets message.now.id
         (searched (view_of (entries_of (D.rows dir.now)) who.now) request.now
         (subentries_asked message.now.controls) (page_asked message.now.controls))) }
+    ensures short { OnOk result (IsShortPage message.now.id
+        (searched (view_of (entries_of (D.rows dir.now)) who.now) request.now
+        (subentries_asked message.now.controls) (page_asked message.now.controls))) }
     ensures err { OnErr result (out.new.items ≡ out.old.items) }
 {
     match subentries_asked(message.controls.as_slice()) {
@@ -161,38 +182,40 @@ fn put_compare<D: Dir>(
     request: &CompareRequest,
     out: &mut Vec<u8>,
 ) -> Result<(), AllocError>
-    ensures ok { OnOk result (out.new.items ≡ out.old.items ++ replies_octets id
-        (reply.Compare (compare_result (view_of (entries_of (D.rows dir.now)) who.now) request.now) ∷ [])) }
+    ensures ok { OnOk result (Puts id
+        (reply.Ended ending.Compare (compare_result (view_of (entries_of (D.rows dir.now)) who.now) request.now) ∷ [])
+        out.old.items out.new.items) }
     ensures err { OnErr result (out.new.items ≡ out.old.items) }
 {
     let found = compare(alloc, dir, who, request)?;
-    put_reply(out, id, &Reply::Compare(found))
+    put_reply(out, id, &Reply::Ended(Ending::Compare, found))
 }
 
-/// Changes the entries as the request asks for; a request that asks for no change leaves them. None where nothing refuses
-/// it. After `AllocError` all is as it was.
+/// A change, with the message that asks for it.
+#[derive(Clone, Copy)]
+struct Wanted<'a> {
+    message: &'a Message,
+    update: &'a Update,
+    ghost asks: { message.now.request ≡ request.Update update.now },
+}
+
+/// Changes the entries as is asked for. None where nothing refuses it. After `AllocError` all is as it was.
 fn change<D: Dir>(
     alloc: Global,
     dir: &mut D,
     who: &Requester,
-    request: &Request,
+    update: &Update,
 ) -> Result<Option<LdapResult>, AllocError>
     ensures ok { IfOk result (λ refusal. IsChanged (entries_of (D.rows dir.old))
-        (change_of (entries_of (D.rows dir.old)) who.now request.now)
+        (change_of (entries_of (D.rows dir.old)) who.now update.now)
         refusal (entries_of (D.rows dir.new))) }
     ensures kept { OnErr result (entries_of (D.rows dir.new) ≡ entries_of (D.rows dir.old)) }
 {
-    match request {
-        Request::Modify(asked) => modify(alloc, dir, who, asked),
-        Request::Add(asked) => add(alloc, dir, who, asked),
-        Request::Delete(asked) => delete(alloc, dir, who, asked),
-        Request::Rename(asked) => rename(alloc, dir, who, asked),
-        Request::Bind(_)
-        | Request::Unbind
-        | Request::Search(_)
-        | Request::Compare(_)
-        | Request::Abandon(_)
-        | Request::Extended(_, _) => Ok(None),
+    match update {
+        Update::Modify(asked) => modify(alloc, dir, who, asked),
+        Update::Add(asked) => add(alloc, dir, who, asked),
+        Update::Delete(asked) => delete(alloc, dir, who, asked),
+        Update::Rename(asked) => rename(alloc, dir, who, asked),
     }
 }
 
@@ -208,23 +231,36 @@ fn put_kept(keeps: bool, request: &Request, changes: &mut Vec<u8>) -> Result<(),
     }
 }
 
+/// Appends the response to a change.
+fn put_changed(wanted: Wanted<'_>, ended: LdapResult, out: &mut Vec<u8>) -> Result<(), AllocError>
+    ensures ok { OnOk result (Puts wanted.entry.message.now.id
+        (reply.Ended (ending_for wanted.entry.update.now) ended ∷ [])
+        out.old.items out.new.items) }
+    ensures err { OnErr result (out.new.items ≡ out.old.items) }
+{
+    let reply = Reply::Ended(ending_for(wanted.update), ended);
+    put_reply(out, wanted.message.id, &reply)
+}
+
 /// Appends what an accepted change has appended: its record and its reply. After `AllocError` nothing was appended.
 fn put_accepted(
     alloc: Global,
-    message: &Message,
+    wanted: Wanted<'_>,
     keeps: bool,
     out: &mut Outgoing,
 ) -> Result<(), AllocError>
-    ensures ok { OnOk result (out.new.replies.items ≡ out.old.replies.items
-        ++ replies_octets message.now.id (ended_with code.Success message.now.request)) }
+    ensures ok { OnOk result (Puts wanted.entry.message.now.id
+        (reply.Ended (ending_for wanted.entry.update.now) (result_with code.Success) ∷ [])
+        out.old.replies.items out.new.replies.items) }
     ensures recorded { OnOk result (out.new.changes.items ≡ out.old.changes.items
-        ++ kept_changes keeps (record_text message.now.request)) }
+        ++ kept_changes keeps (record_text (request.Update wanted.entry.update.now))) }
     ensures err { OnErr result (out.new.replies.items ≡ out.old.replies.items) }
     ensures unrecorded { OnErr result (out.new.changes.items ≡ out.old.changes.items) }
 {
     let before = out.changes.len();
-    put_kept(keeps, &message.request, &mut out.changes)?;
-    match put_ended(alloc, message, ResultCode::Success, &mut out.replies) {
+    put_kept(keeps, &wanted.message.request, &mut out.changes)?;
+    let ended = result_of(alloc, ResultCode::Success);
+    match put_changed(wanted, ended, &mut out.replies) {
         Ok(()) => Ok(()),
         Err(fault) => {
             out.changes.truncate(before);
@@ -236,7 +272,7 @@ fn put_accepted(
 /// Puts the response with a refusal in the place of all replies behind the first octets, and takes back all changes behind
 /// those that were kept. After `AllocError` all is taken back.
 fn put_refusal(
-    message: &Message,
+    wanted: Wanted<'_>,
     refusal: LdapResult,
     first: usize,
     kept: usize,
@@ -244,14 +280,14 @@ fn put_refusal(
 ) -> Result<(), AllocError>
     requires replies { first ≤ vec_len out.old.replies }
     requires changes { kept ≤ vec_len out.old.changes }
-    ensures ok { OnOk result (out.new.replies.items ≡ take first out.old.replies.items
-        ++ replies_octets message.now.id (replies_in (response_of message.now.request refusal))) }
+    ensures ok { OnOk result (Puts wanted.entry.message.now.id (reply.Ended (ending_for wanted.entry.update.now) refusal ∷ [])
+        (take first out.old.replies.items) out.new.replies.items) }
     ensures err { OnErr result (out.new.replies.items ≡ take first out.old.replies.items) }
     ensures unrecorded { out.new.changes.items ≡ take kept out.old.changes.items }
 {
     out.replies.truncate(first);
     out.changes.truncate(kept);
-    put_response(message, refusal, &mut out.replies)
+    put_changed(wanted, refusal, &mut out.replies)
 }
 
 /// Changes the entries, and appends the record of the change and the reply, for which there is room before the directory
@@ -261,27 +297,27 @@ fn put_change<D: Dir>(
     alloc: Global,
     dir: &mut D,
     who: &Requester,
-    message: &Message,
+    wanted: Wanted<'_>,
     keeps: bool,
     out: &mut Outgoing,
 ) -> Result<(), AllocError>
-    ensures ok { OnOk result (Sends message.now.id
-        (changing (entries_of (D.rows dir.old)) who.now message.now.request
-        (change_of (entries_of (D.rows dir.old)) who.now message.now.request))
+    ensures ok { OnOk result (Sends wanted.entry.message.now.id
+        (changing (entries_of (D.rows dir.old)) who.now wanted.entry.update.now
+        (change_of (entries_of (D.rows dir.old)) who.now wanted.entry.update.now))
         out.old.replies.items out.new.replies.items (entries_of (D.rows dir.new)) who.now) }
     ensures recorded { OnOk result (out.new.changes.items ≡ out.old.changes.items ++ kept_changes keeps
-        (changing (entries_of (D.rows dir.old)) who.now message.now.request
-        (change_of (entries_of (D.rows dir.old)) who.now message.now.request)).changes) }
+        (changing (entries_of (D.rows dir.old)) who.now wanted.entry.update.now
+        (change_of (entries_of (D.rows dir.old)) who.now wanted.entry.update.now)).changes) }
     ensures err { OnErr result (out.new.replies.items ≡ out.old.replies.items) }
     ensures unrecorded { OnErr result (out.new.changes.items ≡ out.old.changes.items) }
     ensures entries { OnErr result (entries_of (D.rows dir.new) ≡ entries_of (D.rows dir.old)) }
 {
     let before = out.replies.len();
     let unchanged = out.changes.len();
-    put_accepted(alloc, message, keeps, out)?;
-    match change(alloc, dir, who, &message.request) {
+    put_accepted(alloc, wanted, keeps, out)?;
+    match change(alloc, dir, who, wanted.update) {
         Ok(None) => Ok(()),
-        Ok(Some(refusal)) => put_refusal(message, refusal, before, unchanged, out),
+        Ok(Some(refusal)) => put_refusal(wanted, refusal, before, unchanged, out),
         Err(fault) => {
             out.changes.truncate(unchanged);
             out.replies.truncate(before);
@@ -334,8 +370,9 @@ fn operate<D: Dir>(
         Request::Extended(name, value) => {
             answer_extended(alloc, who, message.id, name, value, &mut out.replies)
         }
-        Request::Modify(_) | Request::Add(_) | Request::Delete(_) | Request::Rename(_) => {
-            put_change(alloc, dir, who, message, allowed.terms.keeps, out)
+        Request::Update(update) => {
+            let wanted = Wanted { message, update };
+            put_change(alloc, dir, who, wanted, allowed.terms.keeps, out)
         }
     }
 }
@@ -347,8 +384,9 @@ fn refuse(
     message: &Message,
     out: &mut Vec<u8>,
 ) -> Result<(), AllocError>
-    ensures ok { OnOk result (out.new.items ≡ out.old.items ++ replies_octets message.now.id
-        (ended_with code.UnavailableCriticalExtension message.now.request)) }
+    ensures ok { OnOk result (Puts message.now.id
+        (ended_with code.UnavailableCriticalExtension message.now.request)
+        out.old.items out.new.items) }
     ensures asked { OnOk result (who.new ≡ asking who.old message.now.request) }
     ensures err { OnErr result (out.new.items ≡ out.old.items) }
     ensures kept { OnErr result (who.new ≡ who.old) }
@@ -407,6 +445,7 @@ fn answer_message<D: Dir>(
     ensures ok { IfOk result (λ closes.
         Gives (answer_read allowed.terms.keeps (entries_of (D.rows dir.old)) who.old (Some message.now))
         (put_in out.old) (put_in out.new) (entries_of (D.rows dir.new)) who.new closes) }
+    ensures short { OnOk result (IsShortAnswer (entries_of (D.rows dir.old)) who.old (Some message.now)) }
     ensures err { OnErr result (out.new.replies.items ≡ out.old.replies.items) }
     ensures unrecorded { OnErr result (out.new.changes.items ≡ out.old.changes.items) }
     ensures kept { OnErr result (who.new ≡ who.old) }
@@ -461,6 +500,8 @@ fn answer_any<D: Dir>(
 ) -> Result<bool, AllocError>
     ensures ok { IfOk result (λ closes. Gives ((rules allowed.terms).answer (entries_of (D.rows dir.old)) who.old bytes.now)
         (put_in out.old) (put_in out.new) (entries_of (D.rows dir.new)) who.new closes) }
+    ensures short { OnOk result (IsAnsweredShort allowed.terms
+        (record { tree = entries_of (D.rows dir.old); who = who.old; message = bytes.now })) }
     ensures err { OnErr result (out.new.replies.items ≡ out.old.replies.items) }
     ensures unrecorded { OnErr result (out.new.changes.items ≡ out.old.changes.items) }
     ensures asker { OnErr result (who.new ≡ who.old) }
@@ -492,6 +533,9 @@ pub fn answer<D: Dir>(
     requires { frame_at bytes.now ≡ Frame.Whole (length bytes.now) }
     ensures ok { IfOk result (λ closes. Gives ((rules allowed.terms).answer (entries_of (D.rows dir.old)) who.old bytes.now)
         (put_in out.old) (put_in out.new) (entries_of (D.rows dir.new)) who.new closes) }
+    // So each reply is read again.
+    ensures short { OnOk result (IsAnsweredShort allowed.terms
+        (record { tree = entries_of (D.rows dir.old); who = who.old; message = bytes.now })) }
     ensures err { OnErr result (out.new.replies.items ≡ out.old.replies.items) }
     ensures unrecorded { OnErr result (out.new.changes.items ≡ out.old.changes.items) }
     ensures asker { OnErr result (who.new ≡ who.old) }

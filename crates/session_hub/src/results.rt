@@ -14,7 +14,7 @@ pub fn result_of(alloc: Global, code: ResultCode) -> LdapResult
     ensures plain { IsPlainResult result }
 {
     LdapResult {
-        code: code.number(),
+        code,
         matched: Octets::from_vec(Vec::new(alloc)),
     }
 }

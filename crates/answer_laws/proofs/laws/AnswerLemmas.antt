@@ -13,6 +13,7 @@ use Rattle.ldap_msg.specs.declared.kinds.Message.{Message}
 use Rattle.ldap_msg.specs.declared.kinds.LdapResult.{LdapResult}
 use Rattle.ldap_msg.specs.declared.kinds.Reply.{Reply}
 use Rattle.ldap_msg.specs.declared.kinds.Reply.TheVariants as reply
+use Rattle.ldap_msg.specs.declared.operations.Ending.TheVariants as ending
 use Rattle.read_model.specs.Views.{view_of, result_of}
 use Rattle.read_model.specs.SearchReplies.{search_replies, replies_octets}
 use Rattle.read_model.specs.CompareReplies.{compare_result}
@@ -38,7 +39,7 @@ searched-replies id entries who controls asked search subentries e accepted read
 -- a compare by its result
 compared-replies : (id : ℕ) (entries : List EntryInformation) (who : Requester) (controls : List Control) (asked : Request)
     (compare : CompareRequest) → asked ≡ request.Compare compare → is_refused asked controls ≡ false
-    → octets_of id (answered entries who controls asked) ≡ replies_octets id (reply.Compare (compare_result (view_of entries who) compare) ∷ [])
+    → octets_of id (answered entries who controls asked) ≡ replies_octets id (reply.Ended ending.Compare (compare_result (view_of entries who) compare) ∷ [])
 compared-replies id entries who controls asked compare e accepted = rw (accepted, e) refl
 
 -- octets of replies that end the search so
@@ -58,9 +59,9 @@ answer_read-searched keeps entries who message search asks known =
     ]
 
 -- octets of the one reply to a compare
-compared-with : (code : ResultCode) (id : ℕ) (octets : List ℕ) (result : LdapResult) → octets ≡ replies_octets id (reply.Compare result ∷ [])
+compared-with : (code : ResultCode) (id : ℕ) (octets : List ℕ) (result : LdapResult) → octets ≡ replies_octets id (reply.Ended ending.Compare result ∷ [])
     → result ≡ result_of code → IsComparedWith code id octets
-compared-with code id octets result e f = e ∙ ap (λ result. replies_octets id (reply.Compare result ∷ [])) f
+compared-with code id octets result e f = e ∙ ap (λ result. replies_octets id (reply.Ended ending.Compare result ∷ [])) f
 
 pub answer_read-compared : (keeps : Bool) (entries : List EntryInformation) (who : Requester) (message : Message) (compare : CompareRequest)
     → AsksCompare message compare → IsComparable entries who compare

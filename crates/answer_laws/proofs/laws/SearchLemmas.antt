@@ -16,6 +16,7 @@ use Rattle.ldap_msg.specs.declared.operations.ResultCode.TheVariants as code
 use Rattle.ldap_msg.specs.declared.kinds.SearchRequest.{SearchRequest}
 use Rattle.ldap_msg.specs.declared.kinds.Reply.{Reply}
 use Rattle.ldap_msg.specs.declared.kinds.Reply.TheVariants as reply
+use Rattle.ldap_msg.specs.declared.operations.Ending.TheVariants as ending
 use Rattle.read_model.specs.Views.{View, row_of, view_of, has_name, is_disclosed, result_of, discloses}
 use Rattle.read_model.specs.Selecting.{selected}
 use Rattle.read_model.specs.Choosing.{sent_entry}
@@ -46,11 +47,11 @@ limit-codes limit rows = elim (cases_Bool (limit == 0)) [
 
 -- rows that are sent, and the end
 sent-ends : (selection : List (List ℕ)) (kinds_only : Bool) (rows : View) (one other : ResultCode) → one ≡ other
-    → EndsWith other (map (sent_entry selection kinds_only) rows ++ reply.Done (result_of one) ∷ [])
+    → EndsWith other (map (sent_entry selection kinds_only) rows ++ reply.Ended ending.Done (result_of one) ∷ [])
 sent-ends selection kinds_only rows one other e = record {
   sent = map (sent_entry selection kinds_only) rows;
   entries = sent-entries selection kinds_only rows;
-  ends = ap (λ code. map (sent_entry selection kinds_only) rows ++ reply.Done (result_of code) ∷ []) e;
+  ends = ap (λ code. map (sent_entry selection kinds_only) rows ++ reply.Ended ending.Done (result_of code) ∷ []) e;
 }
 
 -- whatever is selected

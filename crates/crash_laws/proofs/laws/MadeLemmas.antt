@@ -8,6 +8,8 @@ use Rattle.session_model.specs.ldap_msg.declared.kinds.Control.{Control}
 use Rattle.session_model.specs.ldap_msg.declared.kinds.Message.{Message}
 use Rattle.session_model.specs.ldap_msg.declared.kinds.Request.{Request}
 use Rattle.session_model.specs.ldap_msg.declared.kinds.Request.TheVariants as request
+use Rattle.session_model.specs.ldap_msg.declared.kinds.Update.{Update}
+use Rattle.session_model.specs.ldap_msg.declared.kinds.Update.TheVariants as update
 use Rattle.session_model.specs.ldap_msg.reading.Messages.{message_of}
 use Rattle.change_replay.specs.change_records.Written.{record_text}
 use Rattle.change_replay.specs.op_add_delete.adding.Updates.{Changed, Refused, Made, left_by}
@@ -17,7 +19,7 @@ use Rattle.session_hub.specs.Parties.{DirectoryEntries, Requester}
 use Rattle.session_hub.specs.declared.bounds.Terms.{Terms}
 use Rattle.session_hub.specs.Controls.{is_refused}
 use Rattle.session_hub.specs.Limiting.{limited_request, limited_read}
-use Rattle.session_hub.specs.Answering.{Operated, recorded, asking, operated, refused, answered, answer_read, rules}
+use Rattle.session_hub.specs.Answering.{Operated, recorded, change_of, asking, operated, refused, answered, answer_read, rules}
 use Rattle.crash_laws.proofs.laws.AskedLemmas.{message-octets}
 
 -- accepted changes, of which these are the records, leave these entries
@@ -56,23 +58,25 @@ limited_octets : (limit : ℕ) (asked : Request) → IsOfOctets asked → IsOfOc
 limited_octets limit (request.Bind bind) octets = octets
 limited_octets limit request.Unbind octets = octets
 limited_octets limit (request.Search search) octets = octets
-limited_octets limit (request.Modify modify) octets = octets
-limited_octets limit (request.Add add) octets = octets
-limited_octets limit (request.Delete delete) octets = octets
-limited_octets limit (request.Rename rename) octets = octets
+limited_octets limit (request.Update update) octets = octets
 limited_octets limit (request.Compare compare) octets = octets
 limited_octets limit (request.Abandon id) octets = octets
 limited_octets limit (request.Extended name value) octets = octets
+
+-- what is replayed of a change is what sessions make of it
+same_change : (entries : DirectoryEntries) (who : Requester) (asked : Update) → outcome entries who (request.Update asked) ≡ change_of entries who asked
+same_change entries who (update.Modify modify) = refl
+same_change entries who (update.Add add) = refl
+same_change entries who (update.Delete delete) = refl
+same_change entries who (update.Rename rename) = refl
 
 operated_made : (entries : DirectoryEntries) (who : Requester) (controls : List Control) (asked : Request) → IsOfOctets asked
     → let came = operated entries who controls asked in IsMade entries came.changes came.entries
 operated_made entries who controls (request.Bind bind) octets = nothing_made entries
 operated_made entries who controls request.Unbind octets = nothing_made entries
 operated_made entries who controls (request.Search search) octets = nothing_made entries
-operated_made entries who controls (request.Modify modify) octets = changed_made entries who (request.Modify modify) (outcome entries who (request.Modify modify)) refl octets
-operated_made entries who controls (request.Add add) octets = changed_made entries who (request.Add add) (outcome entries who (request.Add add)) refl octets
-operated_made entries who controls (request.Delete delete) octets = changed_made entries who (request.Delete delete) (outcome entries who (request.Delete delete)) refl octets
-operated_made entries who controls (request.Rename rename) octets = changed_made entries who (request.Rename rename) (outcome entries who (request.Rename rename)) refl octets
+operated_made entries who controls (request.Update update) octets =
+    changed_made entries who (request.Update update) (change_of entries who update) (same_change entries who update) octets
 operated_made entries who controls (request.Compare compare) octets = nothing_made entries
 operated_made entries who controls (request.Abandon id) octets = nothing_made entries
 operated_made entries who controls (request.Extended name value) octets = nothing_made entries

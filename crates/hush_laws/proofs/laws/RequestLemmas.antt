@@ -18,10 +18,7 @@ pub reads_outside-is : (top : RdnSequence) (asked : Request) → reads_outside t
 reads_outside-is top (request.Bind bind) = refl
 reads_outside-is top request.Unbind = refl
 reads_outside-is top (request.Search search) = refl
-reads_outside-is top (request.Modify modify) = refl
-reads_outside-is top (request.Add add) = refl
-reads_outside-is top (request.Delete delete) = refl
-reads_outside-is top (request.Rename rename) = refl
+reads_outside-is top (request.Update update) = refl
 reads_outside-is top (request.Compare compare) = refl
 reads_outside-is top (request.Abandon id) = refl
 reads_outside-is top (request.Extended name value) = refl

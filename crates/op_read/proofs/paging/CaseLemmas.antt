@@ -1,48 +1,22 @@
 -- A search by pages, by the cases of its size, its cookie, its base and its limit.
-use Rattle.std.proofs.Common.{◌≡◌, ◌≢◌, ℕ, Bool, true, false, List, [], ◌∷◌, ◌++◌, length, Option, Some, None, refl, sym, ap, ◌∙◌, arith}
+use Rattle.std.proofs.Common.{◌≡◌, ◌≢◌, ℕ, Bool, true, false, List, [], ◌∷◌, length, Option, Some, None, refl, sym, ap, ◌∙◌, arith}
 use Rattle.std.specs.Prelude.{◌==◌, Result, Ok, Err, if◌then◌else◌}
 use Rattle.std.specs.Result.{result_ok}
 use Rattle.std.proofs.lemmas.Bool.{ne_eqb, eq-eqb}
-use Rattle.std.proofs.lemmas.List.{append-nil}
 use Rattle.dir_tree.specs.dn_names.name.Names.{RdnSequence}
 use Rattle.dir_tree.specs.dn_names.declared.error.BadName.{BadName}
 use Rattle.dir_tree.specs.dn_names.parsing.NameText.{read_name}
 use Rattle.ldap_msg.specs.declared.operations.ResultCode.TheVariants as code
 use Rattle.ldap_msg.specs.declared.kinds.SearchRequest.{SearchRequest}
-use Rattle.ldap_msg.specs.declared.kinds.Reply.{Reply}
 use Rattle.ldap_msg.specs.declared.kinds.Reply.TheVariants as reply
+use Rattle.ldap_msg.specs.declared.operations.Ending.TheVariants as ending
 use Rattle.page_core.specs.read_model.Views.{View, no_such_object}
 use Rattle.page_core.specs.read_model.RootEntry.{root_replies}
-use Rattle.page_core.specs.read_model.SearchReplies.{replies_at, replies_octets, search_replies}
+use Rattle.page_core.specs.read_model.SearchReplies.{replies_at, search_replies}
 use Rattle.page_core.specs.declared.page.Page.{Page}
-use Rattle.page_core.specs.Endings.{page_end}
 use Rattle.page_core.specs.Starts.{start_of}
-use Rattle.page_core.specs.Pages.{Paged, paged_octets, unpaged, ended, unlimited, page_after, page_from, page_by, fits_page, page_replies}
+use Rattle.page_core.specs.Pages.{Paged, unpaged, ended, unlimited, page_after, page_from, page_by, fits_page, page_replies}
 use Rattle.op_read.specs.Paging.{empty_page, page_at, page_sized_at, page_from_at, page_named, is_done, page_of_none}
-
--- ---- octets
-
--- of an answer that is no page
-pub unpaged-octets : (id : ℕ) (replies : List Reply) → replies_octets id replies ≡ paged_octets id (unpaged replies)
-unfolding paged_octets
-unpaged-octets id replies = sym (append-nil (replies_octets id replies))
-
--- an answer that is no page is appended, which is what is to be sent
-pub unpaged-sent : (id : ℕ) (old new : List ℕ) (replies : List Reply) (paged : Paged) → new ≡ old ++ replies_octets id replies → unpaged replies ≡ paged → new ≡ old ++ paged_octets id paged
-unpaged-sent id old new replies paged put is =
-    put ∙ ap (λ octets. old ++ octets) (unpaged-octets id replies ∙ ap (paged_octets id) is)
-
--- so a page
-pub page-sent : (id : ℕ) (old new : List ℕ) (one other : Paged) → new ≡ old ++ paged_octets id one → one ≡ other → new ≡ old ++ paged_octets id other
-page-sent id old new one other put is = put ∙ ap (λ (paged : Paged). old ++ paged_octets id paged) is
-
--- so a page of no entries
-pub empty-octets : (id : ℕ) → page_end id [] ≡ paged_octets id empty_page
-unfolding paged_octets
-empty-octets id = refl
-
-pub empty-sent : (id : ℕ) (old new : List ℕ) (paged : Paged) → new ≡ old ++ page_end id [] → empty_page ≡ paged → new ≡ old ++ paged_octets id paged
-empty-sent id old new paged put is = put ∙ ap (λ octets. old ++ octets) (empty-octets id ∙ ap (paged_octets id) is)
 
 -- ---- the size, and the cookie
 
@@ -59,7 +33,7 @@ size-some view request subentries base size after some = rw (ne_eqb size 0 some)
 pub none-done : (view all : View) (base : RdnSequence) → is_done view all base ≡ true → empty_page ≡ page_of_none view all base
 none-done view all base e = rw e refl
 
-pub none-fails : (view all : View) (base : RdnSequence) → is_done view all base ≡ false → unpaged (reply.Done (no_such_object view base) ∷ []) ≡ page_of_none view all base
+pub none-fails : (view all : View) (base : RdnSequence) → is_done view all base ≡ false → unpaged (reply.Ended ending.Done (no_such_object view base) ∷ []) ≡ page_of_none view all base
 none-fails view all base e = rw e refl
 
 -- ---- the base

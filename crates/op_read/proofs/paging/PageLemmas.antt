@@ -1,6 +1,6 @@
 -- A page of what is selected behind a name, by what was found.
-use Rattle.std.proofs.Common.{◌≡◌, ◌≢◌, ◌⊎◌, inl, inr, ℕ, Bool, true, false, List, [], ◌∷◌, ◌++◌, Option, Some, refl, sym, ap, ◌∙◌, map, filter, take, length, append_assoc, arith}
-use Rattle.std.specs.Prelude.{nat_lt, flat_map, if◌then◌else◌}
+use Rattle.std.proofs.Common.{◌≡◌, ◌≢◌, ◌⊎◌, inl, inr, ℕ, Bool, true, false, List, [], ◌∷◌, ◌++◌, Option, Some, refl, sym, ap, ◌∙◌, subst, map, filter, take, length, arith}
+use Rattle.std.specs.Prelude.{nat_lt, if◌then◌else◌}
 use Rattle.std.specs.List.{list_any}
 use Rattle.std.proofs.lemmas.Bool.{cases_Bool, ne_eqb, le-ltb}
 use Rattle.std.proofs.Math.Seq.{take-nil}
@@ -11,18 +11,19 @@ use Rattle.ldap_msg.specs.declared.operations.ResultCode.TheVariants as code
 use Rattle.ldap_msg.specs.declared.kinds.SearchRequest.{SearchRequest}
 use Rattle.ldap_msg.specs.declared.kinds.Reply.{Reply}
 use Rattle.ldap_msg.specs.declared.kinds.Reply.TheVariants as reply
+use Rattle.ldap_msg.specs.declared.operations.Ending.TheVariants as ending
 use Rattle.page_core.specs.read_model.Views.{View, Row, has_name, discloses, hidden, no_such_object, result_of}
 use Rattle.page_core.specs.read_model.Selecting.{selected, is_selected}
 use Rattle.page_core.specs.read_model.Choosing.{sent_entry}
 use Rattle.page_core.specs.read_model.SearchReplies.{within_limit, limit_code, nothing_found, found_replies, replies_at}
-use Rattle.page_core.specs.Endings.{page_end}
 use Rattle.page_core.specs.Starts.{is_after}
-use Rattle.page_core.specs.Pages.{Paged, paged_octets, unpaged, last_name, next_cookie, page_of_rows, unlimited, is_success}
+use Rattle.page_core.specs.Pages.{Paged, unpaged, last_name, next_cookie, page_of_rows, unlimited, is_success}
 use Rattle.op_read.specs.declared.sending.Found.{Found}
 use Rattle.op_read.specs.declared.sending.Found.TheVariants.{Nothing, Some as FoundSome, TooMany}
-use Rattle.op_read.specs.Paging.{empty_page, is_done, page_of_none, page_ending, page_at}
-use Rattle.op_read.specs.Sending.{is_filled, last_row, entry_octets, IsSent}
-use Rattle.op_read.proofs.sending.SendingLemmas.{entries-octets}
+use Rattle.op_read.specs.Paging.{ending_page, empty_page, is_done, page_of_none, page_ending, page_at}
+use Rattle.op_read.specs.Sending.{is_filled, last_row, sent_entries, IsSent}
+use Rattle.op_read.specs.Short.{Puts, PutsPage}
+use Rattle.op_read.proofs.sending.PutsLemmas.{puts-same, puts-page, page-sent}
 
 -- ---- the whole search
 
@@ -38,7 +39,7 @@ whole-filled : (view : View) (request : SearchRequest) (base : RdnSequence) (all
 unfolding found_replies
 whole-filled view request base [] h = absurd cc
 whole-filled view request base (first ∷ rest) h =
-    any-last is_success (map (sent_entry request.selection request.kinds_only) (first ∷ rest)) (reply.Done (result_of code.Success)) refl
+    any-last is_success (map (sent_entry request.selection request.kinds_only) (first ∷ rest)) (reply.Ended ending.Done (result_of code.Success)) refl
 
 -- the whole search of a base that is an entry's name
 whole-at : (view : View) (request : SearchRequest) (subentries : Option Bool) (base : RdnSequence) → list_any (has_name base) view ≡ true
@@ -57,7 +58,7 @@ none-there [] e = refl
 none-there (row ∷ rows) e = absurd cc
 
 whole-none : (view : View) (request : SearchRequest) (subentries : Option Bool) (base : RdnSequence) → list_any (has_name base) view ≡ true → is_filled (selected view request subentries base) ≡ false
-    → replies_at view (unlimited request) subentries base ≡ reply.Done (nothing_found view base) ∷ []
+    → replies_at view (unlimited request) subentries base ≡ reply.Ended ending.Done (nothing_found view base) ∷ []
 unfolding found_replies
 whole-none view request subentries base here none =
     whole-at view request subentries base here ∙ ap (found_replies view (unlimited request) base) (none-there (selected view request subentries base) none)
@@ -68,12 +69,6 @@ whole-none view request subentries base here none =
 filled-behind : (p : Row → Bool) (rows : View) → is_filled (filter p rows) ≡ true → is_filled rows ≡ true
 filled-behind p [] e = absurd cc
 filled-behind p (row ∷ rows) e = refl
-
--- the octets of a page of these rows
-rows-octets : (id : ℕ) (request : SearchRequest) (size : ℕ) (rows : View)
-    → paged_octets id (page_of_rows request size rows) ≡ flat_map (entry_octets id request) (take size rows) ++ page_end id (next_cookie size rows)
-unfolding paged_octets
-rows-octets id request size rows = ap (λ entries. entries ++ page_end id (next_cookie size rows)) (entries-octets id request (take size rows))
 
 -- how many there are, by the code
 not-more : (size : ℕ) (rows : View) → size ≢ 0 → limit_code size rows ≡ code.Success → nat_lt size (length rows) ≡ false
@@ -106,17 +101,12 @@ at-done view request subentries base size after done = rw done refl
 
 -- rows were sent, and then the end of a page with this cookie
 page-rows : (id : ℕ) (request : SearchRequest) (size : ℕ) (rows : View) (before middle new cookie : List ℕ) (page : Paged) → size ≢ 0
-    → middle ≡ before ++ flat_map (entry_octets id request) (within_limit size rows) → new ≡ middle ++ page_end id cookie → cookie ≡ next_cookie size rows → page_of_rows request size rows ≡ page
-    → new ≡ before ++ paged_octets id page
+    → Puts id (sent_entries request (within_limit size rows)) before middle → PutsPage id (ending_page cookie) middle new → cookie ≡ next_cookie size rows → page_of_rows request size rows ≡ page
+    → PutsPage id page before new
 page-rows id request size rows before middle new cookie page some sent put is whole =
-    put
-    ∙ ap (λ out. out ++ page_end id cookie) sent
-    ∙ append_assoc before (flat_map (entry_octets id request) (within_limit size rows)) (page_end id cookie)
-    ∙ ap (λ octets. before ++ octets)
-    (ap (λ (rows : View). flat_map (entry_octets id request) rows ++ page_end id cookie) (within-take size rows some)
-    ∙ ap (λ (cookie : List ℕ). flat_map (entry_octets id request) (take size rows) ++ page_end id cookie) is
-    ∙ sym (rows-octets id request size rows)
-    ∙ ap (paged_octets id) whole)
+    page-sent id before new _ page
+    (puts-page id (sent_entries request (take size rows)) cookie before middle new (puts-same id _ _ before middle (ap (sent_entries request) (within-take size rows some)) sent) put)
+    (ap (λ (cookie : List ℕ). record { replies = sent_entries request (take size rows); cookie = Some cookie }) is ∙ whole)
 
 -- ---- a page behind whose name no entry is
 
@@ -149,12 +139,12 @@ page-nothing view request subentries base size after here none =
     by (inl d) (inl f) = succeeds (rw d refl) (done-filled view request subentries base here f)
     by (inr d) (inl f) = succeeds (rw (d, f) refl) (done-filled view request subentries base here f)
     by (inl d) (inr f) =
-        let whole : replies_at view (unlimited request) subentries base ≡ reply.Done (result_of code.Success) ∷ [] = whole-none view request subentries base here f ∙ rw d refl in
+        let whole : replies_at view (unlimited request) subentries base ≡ reply.Ended ending.Done (result_of code.Success) ∷ [] = whole-none view request subentries base here f ∙ rw d refl in
         succeeds (rw d refl) (ap (list_any is_success) whole)
     by (inr d) (inr f) =
-        let whole : replies_at view (unlimited request) subentries base ≡ reply.Done (no_such_object view base) ∷ [] = whole-none view request subentries base here f ∙ rw d refl in
-        let is : page_of_none view all base ≡ unpaged (reply.Done (no_such_object view base) ∷ []) = rw (d, f) refl in
-        is ∙ sym (fails (replies_at view (unlimited request) subentries base) (reply.Done (no_such_object view base) ∷ []) whole refl)
+        let whole : replies_at view (unlimited request) subentries base ≡ reply.Ended ending.Done (no_such_object view base) ∷ [] = whole-none view request subentries base here f ∙ rw d refl in
+        let is : page_of_none view all base ≡ unpaged (reply.Ended ending.Done (no_such_object view base) ∷ []) = rw (d, f) refl in
+        is ∙ sym (fails (replies_at view (unlimited request) subentries base) (reply.Ended ending.Done (no_such_object view base) ∷ []) whole refl)
       where
         fails : (replies other : List Reply) → replies ≡ other → list_any is_success other ≡ false → (if list_any is_success replies then page_of_rows request size (filter (is_after after) all) else unpaged replies) ≡ unpaged other
         fails replies other is none = rw (is, none) refl
@@ -163,13 +153,12 @@ page-nothing view request subentries base size after here none =
 
 pub page-ended : (at : Option EntryNo → View) (id : ℕ) (view : View) (request : SearchRequest) (subentries : Option Bool) (base after : RdnSequence) (size : ℕ) (found : Found) (before middle new : List ℕ)
     → size ≢ 0 → list_any (has_name base) view ≡ true
-    → IsSent at size (entry_octets id request) (filter (is_after after) (selected view request subentries base)) before middle found
-    → new ≡ middle ++ page_ending at id view (selected view request subentries base) base found
-    → new ≡ before ++ paged_octets id (page_at view request subentries base size after)
+    → IsSent at size id request (filter (is_after after) (selected view request subentries base)) before middle found
+    → PutsPage id (page_ending at view (selected view request subentries base) base found) middle new
+    → PutsPage id (page_at view request subentries base size after) before new
 page-ended at id view request subentries base after size Nothing before middle new some here sent put =
-    put
-    ∙ ap (λ out. out ++ paged_octets id (page_of_none view (selected view request subentries base) base)) sent.1
-    ∙ ap (λ (page : Paged). before ++ paged_octets id page) (page-nothing view request subentries base size after here sent.0)
+    page-sent id before new (page_of_none view (selected view request subentries base) base) (page_at view request subentries base size after)
+    (subst (λ out. PutsPage id (page_of_none view (selected view request subentries base) base) out new) sent.1 put) (page-nothing view request subentries base size after here sent.0)
 page-ended at id view request subentries base after size FoundSome before middle new some here sent put =
     let rows = filter (is_after after) (selected view request subentries base) in
     let last : [] ≡ next_cookie size rows = rw (not-more size rows some sent.1) refl in
@@ -188,7 +177,7 @@ page-ended at id view request subentries base after size (TooMany last) before m
 
 -- ---- a base that is no entry's name
 
-hidden-fails : (view : View) (base : RdnSequence) → is_success (reply.Done (hidden view base)) ≡ false
+hidden-fails : (view : View) (base : RdnSequence) → is_success (reply.Ended ending.Done (hidden view base)) ≡ false
 unfolding hidden
 hidden-fails view base = elim (cases_Bool (discloses view base)) [
   | inl e ↦ rw e refl
@@ -196,6 +185,6 @@ hidden-fails view base = elim (cases_Bool (discloses view base)) [
 ]
 
 pub page-none : (view : View) (request : SearchRequest) (subentries : Option Bool) (base : RdnSequence) (size : ℕ) (after : RdnSequence) → list_any (has_name base) view ≡ false
-    → unpaged (reply.Done (hidden view base) ∷ []) ≡ page_at view request subentries base size after
+    → unpaged (reply.Ended ending.Done (hidden view base) ∷ []) ≡ page_at view request subentries base size after
 unfolding replies_at
 page-none view request subentries base size after none = rw (none, hidden-fails view base) refl

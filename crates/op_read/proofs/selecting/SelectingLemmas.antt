@@ -18,6 +18,7 @@ use Rattle.ldap_msg.specs.declared.kinds.SearchScope.{SearchScope}
 use Rattle.ldap_msg.specs.declared.kinds.SearchScope.TheVariants.{BaseObject, SingleLevel, WholeSubtree}
 use Rattle.ldap_msg.specs.declared.kinds.SearchRequest.{SearchRequest}
 use Rattle.ldap_msg.specs.declared.kinds.Reply.TheVariants as reply
+use Rattle.ldap_msg.specs.declared.operations.Ending.TheVariants as ending
 use Rattle.page_core.specs.read_model.Views as views
 use Rattle.page_core.specs.read_model.Views.{hidden}
 use Rattle.page_core.specs.read_model.SearchReplies.{found_replies, replies_at}
@@ -140,6 +141,6 @@ unfolding replies_at
 replies-found rows who request subentries name id e = rw (named-rows rows who name ∙ ap is_some e) refl
 
 pub replies-none : (rows : List Numbered) (who : Requester) (request : SearchRequest) (subentries : Option Bool) (name : RdnSequence) → find_name name rows ≡ None
-    → reply.Done (hidden (view_in rows who) name) ∷ [] ≡ replies_at (view_in rows who) request subentries name
+    → reply.Ended ending.Done (hidden (view_in rows who) name) ∷ [] ≡ replies_at (view_in rows who) request subentries name
 unfolding replies_at
 replies-none rows who request subentries name e = rw (named-rows rows who name ∙ ap is_some e) refl

@@ -12,14 +12,16 @@ use Rattle.ldap_msg.specs.ber_layout.Spellings.{element_octets, each_octets}
 use Rattle.ldap_msg.specs.declared.kinds.KindValues.{KindValues}
 use Rattle.ldap_msg.specs.declared.kinds.SearchRequest.{SearchRequest}
 use Rattle.ldap_msg.specs.Attributes.{attribute_layout, attribute_parts}
-use Rattle.ldap_msg.specs.Replies.{reply_octets}
+use Rattle.ldap_msg.specs.Replies.{reply_octets, IsShortReply}
 use Rattle.page_core.specs.read_model.Views.{Row}
 use Rattle.page_core.specs.read_model.Choosing.{is_chosen, readable_values, sent_attribute, sent_attributes, sent_entry}
 use Rattle.op_read.specs.declared.choosing.Choice.{Choice}
 use Rattle.op_read.specs.Choices.{chooses, sent_of}
-use Rattle.op_read.specs.Sending.{entry_octets}
+use Rattle.op_read.specs.Sending.{sent_entries}
+use Rattle.op_read.specs.Short.{Puts}
 use Rattle.op_read.specs.Writing.{values_octets, attributes_octets, entry_of}
 use Rattle.op_read.proofs.choosing.ChoosingLemmas.{sent-attributes}
+use Rattle.op_read.proofs.sending.PutsLemmas.{puts-one}
 
 -- an element for each, of what is made of them
 each-made : {A B : Type 0} (tag : ℕ) (content : B → List ℕ) (made : A → B) (xs : List A) → flat_map (λ x. element_octets tag (content (made x))) xs ≡ each_octets tag content (map made xs)
@@ -70,6 +72,7 @@ list-written choices texts kinds_only asked row same only left before after none
 -- ---- the message
 
 -- the octets of an entry's message, behind what stands there
-pub entry-written : (id : ℕ) (request : SearchRequest) (row : Row) (before after : List ℕ) → after ≡ before ++ reply_octets id (entry_of request row) → after ≡ before ++ entry_octets id request row
+pub entry-written : (id : ℕ) (request : SearchRequest) (row : Row) (before after : List ℕ) → after ≡ before ++ reply_octets id (entry_of request row) → IsShortReply id (entry_of request row)
+    → Puts id (sent_entries request (row ∷ [])) before after
 unfolding sent_entry
-entry-written id request row before after put = put
+entry-written id request row before after put short = puts-one id (entry_of request row) before after put short

@@ -3,12 +3,15 @@ use Rattle.std.proofs.Common.{◌≡◌, ℕ, Bool, List, [], ◌∷◌, ◌++�
 use Rattle.std.proofs.lemmas.List.Concat.{flat_map-append}
 use Rattle.ldap_msg.specs.declared.operations.ResultCode.TheVariants as code
 use Rattle.ldap_msg.specs.declared.operations.Response.{Response}
+use Rattle.ldap_msg.specs.declared.operations.Ending.TheVariants as ending
 use Rattle.ldap_msg.specs.declared.operations.Response.TheVariants as response
 use Rattle.ldap_msg.specs.declared.kinds.Control.{Control}
 use Rattle.ldap_msg.specs.declared.kinds.LdapResult.{LdapResult}
 use Rattle.ldap_msg.specs.declared.kinds.Message.{Message}
 use Rattle.ldap_msg.specs.declared.kinds.Request.{Request}
 use Rattle.ldap_msg.specs.declared.kinds.Request.TheVariants as request
+use Rattle.ldap_msg.specs.declared.kinds.Update.{Update}
+use Rattle.ldap_msg.specs.declared.kinds.Update.TheVariants as update
 use Rattle.ldap_msg.specs.declared.kinds.Reply.{Reply}
 use Rattle.ldap_msg.specs.declared.kinds.SearchRequest.{SearchRequest}
 use Rattle.ldap_msg.specs.Replies.{response_for, reply_octets}
@@ -22,8 +25,8 @@ use Rattle.session_hub.specs.declared.bounds.Terms.{Terms}
 use Rattle.session_hub.specs.Controls.{is_refused, subentries_asked, page_asked}
 use Rattle.session_hub.specs.Limiting.{limited_request, limited_message, limited_read}
 use Rattle.session_hub.specs.WhoAmI.{asks_who, extended_replies}
-use Rattle.session_hub.specs.Answering.{Operated, response_to, replies_in, asking, searched, refused, operated, answered, sent_octets, answer_read, rules}
-use Rattle.response_laws.specs.Responses.{Plain, PageEnd, octets_of, response_kind, EndsWithOne, AreResponses, IsAnswered}
+use Rattle.session_hub.specs.Answering.{Operated, ending_for, response_to, replies_in, asking, searched, refused, operated, answered, sent_octets, answer_read, rules}
+use Rattle.response_laws.specs.Responses.{Plain, PageEnd, octets_of, change_kind, response_kind, EndsWithOne, AreResponses, IsAnswered}
 use Rattle.response_laws.proofs.laws.SearchLemmas.{by_test, sent_by, IsDone, ended-done, search_replies-done, page_replies-done}
 
 -- ---- the octets are those of the messages
@@ -48,16 +51,20 @@ alone wanted reply is = record { entries = []; last = Plain reply; are = refl; e
 abbrev Responds : Request → Operated → Type 0
 Responds asked came = AreResponses (response_kind asked) (sent_by came.replies came.cookie)
 
+-- a change by its response
+change-ends : (asked : Update) → response.Ended (ending_for asked) ≡ change_kind asked
+change-ends (update.Modify modify) = refl
+change-ends (update.Add add) = refl
+change-ends (update.Delete delete) = refl
+change-ends (update.Rename rename) = refl
+
 -- a result as the response to a request
 response-alone : (asked : Request) (result : LdapResult) → AreResponses (response_kind asked) (map Plain (replies_in (response_to asked result)))
-response-alone (request.Bind bind) result = alone response.Bind _ refl
+response-alone (request.Bind bind) result = alone (response.Ended ending.Bind) _ refl
 response-alone request.Unbind result = refl
-response-alone (request.Search search) result = alone response.Done _ refl
-response-alone (request.Modify modify) result = alone response.Modify _ refl
-response-alone (request.Add add) result = alone response.Add _ refl
-response-alone (request.Delete delete) result = alone response.Delete _ refl
-response-alone (request.Rename rename) result = alone response.Rename _ refl
-response-alone (request.Compare compare) result = alone response.Compare _ refl
+response-alone (request.Search search) result = alone (response.Ended ending.Done) _ refl
+response-alone (request.Update update) result = alone (change_kind update) _ (change-ends update)
+response-alone (request.Compare compare) result = alone (response.Ended ending.Compare) _ refl
 response-alone (request.Abandon id) result = refl
 response-alone (request.Extended name value) result = alone response.Extended _ refl
 
@@ -73,14 +80,11 @@ extended-alone who name value =
     by_test (λ replies. EndsWithOne response.Extended (map Plain replies)) (asks_who name value) _ _ (alone response.Extended _ refl) (alone response.Extended _ refl)
 
 operated-responds : (entries : DirectoryEntries) (who : Requester) (controls : List Control) (asked : Request) → Responds asked (operated entries who controls asked)
-operated-responds entries who controls (request.Bind bind) = alone response.Bind _ refl
+operated-responds entries who controls (request.Bind bind) = alone (response.Ended ending.Bind) _ refl
 operated-responds entries who controls request.Unbind = refl
 operated-responds entries who controls (request.Search search) = searched-done (view_of entries who) search (subentries_asked controls) (page_asked controls)
-operated-responds entries who controls (request.Modify modify) = alone response.Modify _ refl
-operated-responds entries who controls (request.Add add) = alone response.Add _ refl
-operated-responds entries who controls (request.Delete delete) = alone response.Delete _ refl
-operated-responds entries who controls (request.Rename rename) = alone response.Rename _ refl
-operated-responds entries who controls (request.Compare compare) = alone response.Compare _ refl
+operated-responds entries who controls (request.Update update) = alone (change_kind update) _ (change-ends update)
+operated-responds entries who controls (request.Compare compare) = alone (response.Ended ending.Compare) _ refl
 operated-responds entries who controls (request.Abandon id) = refl
 operated-responds entries who controls (request.Extended name value) = extended-alone who name value
 
@@ -106,15 +110,12 @@ limited-kind : (limit : ℕ) (asked : Request) → response_kind (limited_reques
 limited-kind limit (request.Bind bind) = refl
 limited-kind limit request.Unbind = refl
 limited-kind limit (request.Search search) = refl
-limited-kind limit (request.Modify modify) = refl
-limited-kind limit (request.Add add) = refl
-limited-kind limit (request.Delete delete) = refl
-limited-kind limit (request.Rename rename) = refl
+limited-kind limit (request.Update update) = refl
 limited-kind limit (request.Compare compare) = refl
 limited-kind limit (request.Abandon id) = refl
 limited-kind limit (request.Extended name value) = refl
 
-as_asked : (limit : ℕ) (message : Message) (octets : List ℕ) → IsAnswered (limited_request limit message.request) message.id octets → IsAnswered message.request message.id octets
+pub as_asked : (limit : ℕ) (message : Message) (octets : List ℕ) → IsAnswered (limited_request limit message.request) message.id octets → IsAnswered message.request message.id octets
 as_asked limit message octets is = record {
   sent = is.sent;
   responses = subst (λ kind. AreResponses kind is.sent) (limited-kind limit message.request) is.responses;

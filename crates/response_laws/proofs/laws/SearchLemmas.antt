@@ -11,6 +11,7 @@ use Rattle.ldap_msg.specs.declared.kinds.SearchRequest.{SearchRequest}
 use Rattle.ldap_msg.specs.Search.{is_base}
 use Rattle.ldap_msg.specs.declared.kinds.Reply.{Reply}
 use Rattle.ldap_msg.specs.declared.kinds.Reply.TheVariants as reply
+use Rattle.ldap_msg.specs.declared.operations.Ending.TheVariants as ending
 use Rattle.ldap_msg.specs.declared.operations.Response.TheVariants as response
 use Rattle.ldap_msg.specs.Replies.{response_for}
 use Rattle.read_model.specs.Views.{View, has_name, hidden, result_of}
@@ -35,7 +36,7 @@ sent_by replies (Some cookie) = map Plain replies ++ PageEnd cookie ∷ []
 
 -- a paged answer is entries and one search done
 abbrev pub IsDone : Paged → Type 0
-IsDone paged = EndsWithOne response.Done (sent_by paged.replies paged.cookie)
+IsDone paged = EndsWithOne (response.Ended ending.Done) (sent_by paged.replies paged.cookie)
 
 -- so replies are
 record AreDone (replies : List Reply) : Type 0 where
@@ -43,7 +44,7 @@ record AreDone (replies : List Reply) : Type 0 where
   pub last : Reply
   pub are : replies ≡ entries ++ last ∷ []
   pub each : AllByRecursion (λ one. response_for one ≡ response.Entry) entries
-  pub ends : response_for last ≡ response.Done
+  pub ends : response_for last ≡ response.Ended ending.Done
 
 plain-entries : (entries : List Reply) → AllByRecursion (λ one. response_for one ≡ response.Entry) entries
     → AllByRecursion (λ one. kind_of one ≡ response.Entry) (map Plain entries)
@@ -60,11 +61,11 @@ unpaged-done replies done = record {
   others_none = λ other. absurd (other refl);
 }
 
-alone : (last : Reply) → response_for last ≡ response.Done → AreDone (last ∷ [])
+alone : (last : Reply) → response_for last ≡ response.Ended ending.Done → AreDone (last ∷ [])
 alone last is = record { entries = []; last = last; are = refl; each = tt; ends = is }
 
 pub ended-done : (code : ResultCode) → IsDone (ended code)
-ended-done code = unpaged-done (reply.Done (result_of code) ∷ []) (alone (reply.Done (result_of code)) refl)
+ended-done code = unpaged-done (reply.Ended ending.Done (result_of code) ∷ []) (alone (reply.Ended ending.Done (result_of code)) refl)
 
 -- ---- without pages
 
@@ -76,10 +77,10 @@ entries-sent selection kinds_only (row ∷ rows) = (refl, entries-sent selection
 
 found_replies-done : (view : View) (request : SearchRequest) (base : RdnSequence) (rows : View) → AreDone (found_replies view request base rows)
 unfolding found_replies
-found_replies-done view request base [] = alone (reply.Done (nothing_found view base)) refl
+found_replies-done view request base [] = alone (reply.Ended ending.Done (nothing_found view base)) refl
 found_replies-done view request base (first ∷ rest) = record {
   entries = map (sent_entry request.selection request.kinds_only) (within_limit request.size (first ∷ rest));
-  last = reply.Done (result_of (limit_code request.size (first ∷ rest)));
+  last = reply.Ended ending.Done (result_of (limit_code request.size (first ∷ rest)));
   are = refl;
   each = entries-sent request.selection request.kinds_only (within_limit request.size (first ∷ rest));
   ends = refl;
@@ -89,19 +90,19 @@ replies_at-done : (view : View) (request : SearchRequest) (subentries : Option B
 unfolding replies_at
 replies_at-done view request subentries base =
     by_test AreDone (list_any (has_name base) view) _ _ (found_replies-done view request base (selected view request subentries base))
-    (alone (reply.Done (hidden view base)) refl)
+    (alone (reply.Ended ending.Done (hidden view base)) refl)
 
 root_replies-done : (view : View) (request : SearchRequest) (subentries : Option Bool) → AreDone (root_replies view request subentries)
 unfolding root_replies root_entry
 root_replies-done view request subentries =
-    by_test AreDone (is_base request.scope) _ _ (found (finds_root request subentries)) (alone (reply.Done (result_of code.NoSuchObject)) refl)
+    by_test AreDone (is_base request.scope) _ _ (found (finds_root request subentries)) (alone (reply.Ended ending.Done (result_of code.NoSuchObject)) refl)
   where
-    found : (test : Bool) → AreDone ((if test then root_entry view request ∷ [] else []) ++ reply.Done (result_of code.Success) ∷ [])
-    found true = record { entries = root_entry view request ∷ []; last = reply.Done (result_of code.Success); are = refl; each = (refl, tt); ends = refl }
-    found false = alone (reply.Done (result_of code.Success)) refl
+    found : (test : Bool) → AreDone ((if test then root_entry view request ∷ [] else []) ++ reply.Ended ending.Done (result_of code.Success) ∷ [])
+    found true = record { entries = root_entry view request ∷ []; last = reply.Ended ending.Done (result_of code.Success); are = refl; each = (refl, tt); ends = refl }
+    found false = alone (reply.Ended ending.Done (result_of code.Success)) refl
 
 replies_by-done : (view : View) (request : SearchRequest) (subentries : Option Bool) (read : Result RdnSequence BadName) → AreDone (replies_by view request subentries read)
-replies_by-done view request subentries (Err bad) = alone (reply.Done (result_of code.InvalidDnSyntax)) refl
+replies_by-done view request subentries (Err bad) = alone (reply.Ended ending.Done (result_of code.InvalidDnSyntax)) refl
 replies_by-done view request subentries (Ok []) = root_replies-done view request subentries
 replies_by-done view request subentries (Ok (rdn ∷ rdns)) = replies_at-done view request subentries (rdn ∷ rdns)
 
@@ -116,7 +117,7 @@ page_of_rows-done : (request : SearchRequest) (size : ℕ) (rows : View) → IsD
 page_of_rows-done request size rows = page_end-done (page_of_rows request size rows).replies (next_cookie size rows) (entries-sent request.selection request.kinds_only _)
   where
     page_end-done : (entries : List Reply) (cookie : List ℕ) → AllByRecursion (λ one. response_for one ≡ response.Entry) entries
-        → EndsWithOne response.Done (sent_by entries (Some cookie))
+        → EndsWithOne (response.Ended ending.Done) (sent_by entries (Some cookie))
     page_end-done entries cookie each = record {
       entries = map Plain entries;
       last = PageEnd cookie;

@@ -16,6 +16,7 @@ use Rattle.session_model.specs.ldap_msg.declared.kinds.Request.{Request}
 use Rattle.session_model.specs.ldap_msg.declared.kinds.Request.TheVariants as request
 use Rattle.session_model.specs.ldap_msg.declared.kinds.LdapResult.{LdapResult}
 use Rattle.session_model.specs.ldap_msg.declared.kinds.Reply.TheVariants as reply
+use Rattle.session_model.specs.ldap_msg.declared.operations.Ending.TheVariants as ending
 use Rattle.session_model.specs.ldap_msg.reading.Messages.{message_of}
 use Rattle.op_read.specs.read_model.Views.{view_of, result_of}
 use Rattle.op_read.specs.read_model.SearchReplies.{replies_octets}
@@ -75,7 +76,7 @@ module _ (keeps : Bool) (who : Requester) (one other : DirectoryEntries) (top : 
   request-alike id controls (request.Bind bind) h = elim (cases_Bool (is_refused (request.Bind bind) controls)) [
     | inl e ↦ rw e (record { replies = refl; changes = refl; who = refl; closes = refl; one_stays = refl; other_stays = refl })
     | inr e ↦ rw e (let same = bind-twins bind h in record {
-      replies = ap (λ (bound : Bound). replies_octets id (reply.Bind (result_of bound.code) ∷ [])) same;
+      replies = ap (λ (bound : Bound). replies_octets id (reply.Ended ending.Bind (result_of bound.code) ∷ [])) same;
       changes = refl;
       who = ap (λ (bound : Bound). bound.who) same;
       closes = refl;
@@ -98,14 +99,11 @@ module _ (keeps : Bool) (who : Requester) (one other : DirectoryEntries) (top : 
       other_stays = refl;
     })
   ]
-  request-alike id controls (request.Modify modify) h = absurd cc
-  request-alike id controls (request.Add add) h = absurd cc
-  request-alike id controls (request.Delete delete) h = absurd cc
-  request-alike id controls (request.Rename rename) h = absurd cc
+  request-alike id controls (request.Update update) h = absurd cc
   request-alike id controls (request.Compare compare) h = elim (cases_Bool (is_refused (request.Compare compare) controls)) [
     | inl e ↦ rw e (record { replies = refl; changes = refl; who = refl; closes = refl; one_stays = refl; other_stays = refl })
     | inr e ↦ rw e (record {
-      replies = ap (λ (result : LdapResult). replies_octets id (reply.Compare result ∷ [])) (compare_result-twins who one other top twins compare);
+      replies = ap (λ (result : LdapResult). replies_octets id (reply.Ended ending.Compare result ∷ [])) (compare_result-twins who one other top twins compare);
       changes = refl;
       who = refl;
       closes = refl;
@@ -133,10 +131,7 @@ limited-outside : (limit : ℕ) (top : RdnSequence) (asked : Request) → reads_
 limited-outside limit top (request.Bind bind) = refl
 limited-outside limit top request.Unbind = refl
 limited-outside limit top (request.Search search) = refl
-limited-outside limit top (request.Modify modify) = refl
-limited-outside limit top (request.Add add) = refl
-limited-outside limit top (request.Delete delete) = refl
-limited-outside limit top (request.Rename rename) = refl
+limited-outside limit top (request.Update update) = refl
 limited-outside limit top (request.Compare compare) = refl
 limited-outside limit top (request.Abandon id) = refl
 limited-outside limit top (request.Extended name value) = refl

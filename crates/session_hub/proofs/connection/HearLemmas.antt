@@ -4,7 +4,8 @@ use Rattle.std.proofs.lemmas.List.{drop-append-le}
 use Rattle.std.proofs.Math.Bool.{or-false}
 use Rattle.session_model.specs.ldap_msg.Streams.{whole, rest_of, is_broken}
 use Rattle.session_model.proofs.ldap_msg_proofs.Theorems.{rest_bound}
-use Rattle.session_model.specs.Rules.{Answered, talk}
+use Rattle.session_model.specs.Rules.{Answered, talk, up_to}
+use Rattle.session_model.specs.AnsweredMessages.{answered_messages, answered_of_held}
 use Rattle.session_model.specs.Kept.{Kept, Held, kept_of, cut_of, changed, speech, heard, heard_piece, is_cut}
 use Rattle.session_model.proofs.Theorems.{speech-cut}
 use Rattle.session_hub.specs.Parties.{DirectoryEntries, Requester}
@@ -14,11 +15,13 @@ use Rattle.session_hub.specs.declared.spoken.SpeechEnd.{SpeechEnd}
 use Rattle.session_hub.specs.declared.spoken.SpeechEnd.TheVariants.{StaysOpen, Closes, IsCut, IsFull}
 use Rattle.session_hub.specs.Outgoing.{Put}
 use Rattle.session_hub.specs.Answering.{rules}
+use Rattle.session_hub.specs.ShortAnswers.{IsAnsweredShort, AreAnsweredShort}
 use Rattle.session_hub.specs.Answers.{Gives, Speaks, said_to, closes_at, cut_at}
 use Rattle.session_hub.specs.connection.Connections.{HearsPiece, KeepsRest}
 use Rattle.session_hub.specs.connection.Limits.{most_unread}
 use Rattle.session_hub.specs.hub.Hubs.{IsAt, HearsAt}
 use Rattle.session_hub.proofs.places.PlaceLemmas.{kept_at_is, changed_at, cut_changed}
+use Rattle.session_hub.proofs.stream.EachLemmas.{all_cut, up_to_none}
 
 -- a stream to which nothing that closes is said isn't broken
 unbroken : (closes broken : Bool) → (closes || (not closes && broken)) ≡ false → broken ≡ false
@@ -34,19 +37,24 @@ rest_bounded terms t w stream still = rest_bound stream (unbroken (talk (rules t
 pub record HasEnded (terms : Terms) (t : DirectoryEntries) (w : Requester) (stream : List ℕ) (old new : Put) (u : DirectoryEntries) (y : Requester) (answered : ℕ) (rest : List ℕ) (end : SpeechEnd) : Type 0 where
   pub gives : Gives (said_to terms (cut_at end answered) t w stream) old new u y (closes_at end)
   pub unread : rest ≡ cond (closes_at end) [] (rest_of stream)
+  pub short : AreAnsweredShort terms t w (up_to (cut_at end answered) (whole stream))
 
 has_ended : (terms : Terms) (room : ℕ) (t : DirectoryEntries) (w : Requester) (stream : List ℕ) (old new : Put) (u : DirectoryEntries) (y : Requester) (spoken : Spoken) (rest : List ℕ) (end : SpeechEnd) →
     Speaks terms room t w stream old new u y spoken → KeepsRest spoken.end (drop spoken.read stream) rest end → HasEnded terms t w stream old new u y spoken.answered rest end
 has_ended terms room t w stream old new u y spoken rest StaysOpen speaks keeps =
-    record { gives = subst (λ e. Gives (said_to terms (cut_at e spoken.answered) t w stream) old new u y (closes_at e)) keeps.0 speaks.gives; unread = keeps.1 ∙ speaks.unread keeps.0 }
+    record { gives = subst (λ e. Gives (said_to terms (cut_at e spoken.answered) t w stream) old new u y (closes_at e)) keeps.0 speaks.gives; unread = keeps.1 ∙ speaks.unread keeps.0; short = subst (λ e. AreAnsweredShort terms t w (up_to (cut_at e spoken.answered) (whole stream))) keeps.0 speaks.short }
 has_ended terms room t w stream old new u y spoken rest Closes speaks keeps =
-    record { gives = subst (λ e. Gives (said_to terms (cut_at e spoken.answered) t w stream) old new u y (closes_at e)) keeps.0 speaks.gives; unread = keeps.1 }
+    record { gives = subst (λ e. Gives (said_to terms (cut_at e spoken.answered) t w stream) old new u y (closes_at e)) keeps.0 speaks.gives; unread = keeps.1; short = subst (λ e. AreAnsweredShort terms t w (up_to (cut_at e spoken.answered) (whole stream))) keeps.0 speaks.short }
 has_ended terms room t w stream old new u y spoken rest IsFull speaks keeps =
-    record { gives = subst (λ e. Gives (said_to terms (cut_at e spoken.answered) t w stream) old new u y (closes_at e)) keeps.0 speaks.gives; unread = keeps.1 }
+    record { gives = subst (λ e. Gives (said_to terms (cut_at e spoken.answered) t w stream) old new u y (closes_at e)) keeps.0 speaks.gives; unread = keeps.1; short = subst (λ e. AreAnsweredShort terms t w (up_to (cut_at e spoken.answered) (whole stream))) keeps.0 speaks.short }
 has_ended terms room t w stream old new u y spoken rest IsCut speaks keeps =
     elim keeps.0 [
-      | inl open_ ↦ record { gives = speaks.cuts open_; unread = keeps.1 }
-      | inr cut ↦ record { gives = subst (λ e. Gives (said_to terms (cut_at e spoken.answered) t w stream) old new u y (closes_at e)) cut speaks.gives; unread = keeps.1 }
+      | inl open_ ↦ record {
+        gives = speaks.cuts open_;
+        unread = keeps.1;
+        short = all_cut (rules terms) (IsAnsweredShort terms) spoken.answered t w (whole stream) (subst (λ e. AreAnsweredShort terms t w (up_to (cut_at e spoken.answered) (whole stream))) open_ speaks.short);
+      }
+      | inr cut ↦ record { gives = subst (λ e. Gives (said_to terms (cut_at e spoken.answered) t w stream) old new u y (closes_at e)) cut speaks.gives; unread = keeps.1; short = subst (λ e. AreAnsweredShort terms t w (up_to (cut_at e spoken.answered) (whole stream))) cut speaks.short }
     ]
 
 -- a connection by its parts
@@ -67,6 +75,7 @@ hears_end terms room piece stream t u k old new rest taken y spoken end is speak
           (ap (drop taken) has.gives.said ∙ drop-append-le taken old.replies a.replies fits ∙ ap (λ xs. xs ++ a.replies) (sym queued)) has.gives.closed;
       changes = has.gives.recorded;
       entries = has.gives.left;
+      short = has.short;
     }
 
 -- the same, given by other names
@@ -80,6 +89,11 @@ hears_as terms room piece stream t u k now old new rest taken y spoken end closi
     (subst (λ o. HearsPiece terms piece t k old.changes u (record { number = k.number; rest = rest; who = y; queue = drop taken new.replies; closing = closes_at end; cut = o }) new.changes) (sym cuts)
     (hears_end terms room piece stream t u k old new rest taken y spoken end is speaks keeps queued fits)))
 
+-- the replies to no message are short
+short_uncut : (terms : Terms) (t : DirectoryEntries) (w : Requester) (messages : List (List ℕ)) → AreAnsweredShort terms t w (up_to (Some 0) messages)
+unfolding answered_messages
+short_uncut terms t w messages = subst (λ (none : List (List ℕ)). AreAnsweredShort terms t w none) (sym (up_to_none messages)) tt
+
 -- and where there was no memory for the piece
 pub hears_cut : (terms : Terms) (piece : List ℕ) (t : DirectoryEntries) (k : Kept Requester) (changes : List ℕ) → HearsPiece terms piece t k changes t (record k { rest = []; closing = true; cut = Some 0 }) changes
 hears_cut terms piece t k changes =
@@ -91,6 +105,7 @@ hears_cut terms piece t k changes =
           (sym (append-nil k.queue) ∙ ap (λ (x : Answered DirectoryEntries Requester). k.queue ++ x.replies) (sym is)) (ap (λ (x : Answered DirectoryEntries Requester). x.closes) (sym is));
       changes = sym (append-nil changes) ∙ ap (λ (x : Answered DirectoryEntries Requester). changes ++ x.changes) (sym is);
       entries = ap (λ (x : Answered DirectoryEntries Requester). x.tree) (sym is);
+      short = short_uncut terms t k.who (whole (k.rest ++ piece));
     }
 
 pub hears_starved : (terms : Terms) (piece : List ℕ) (t : DirectoryEntries) (k now : Kept Requester) (rest changes : List ℕ) → k ≡ now → rest ≡ [] → HearsPiece terms piece t now changes t (record k { rest = rest; closing = true; cut = Some 0 }) changes
@@ -111,13 +126,13 @@ ended_bounded terms room t w stream old new u y spoken rest end speaks keeps = b
 
 -- a piece for a connection that isn't held, for one that is closing, and for one that is open
 pub hears_nowhere : (terms : Terms) (c : ℕ) (piece : List ℕ) (t : DirectoryEntries) (ks : List (Kept Requester)) (changes : List ℕ) → kept_of c ks ≡ None → HearsAt terms c piece t ks changes t ks changes false
-unfolding heard
-hears_nowhere terms c piece t ks changes none = record { same = λ b. rw (or-false b, none) refl }
+unfolding heard answered_of_held
+hears_nowhere terms c piece t ks changes none = record { same = λ b. rw (or-false b, none) refl; short = λ b. rw none tt }
 
 pub hears_closing : (terms : Terms) (c at : ℕ) (piece : List ℕ) (t : DirectoryEntries) (ks : List (Kept Requester)) (changes : List ℕ) (k : Kept Requester) → IsAt c at ks → k ≡ get_or ks at k → k.closing ≡ true →
     HearsAt terms c piece t ks changes t ks changes false
-unfolding heard
-hears_closing terms c at piece t ks changes k place is shut = record { same = λ b. rw (or-false b, kept_at_is c at ks k place is, shut) refl }
+unfolding heard answered_of_held
+hears_closing terms c at piece t ks changes k place is shut = record { same = λ b. rw (or-false b, kept_at_is c at ks k place is, shut) refl; short = λ b. rw (kept_at_is c at ks k place is, shut) tt }
 
 held_is : (t u : DirectoryEntries) (ks ls : List (Kept Requester)) (b d : Bool) (xs ys : List ℕ) → t ≡ u → ks ≡ ls → b ≡ d → xs ≡ ys →
     ◌≡◌ {A = Held DirectoryEntries Requester} (record { tree = t; kept = ks; was_cut = b; unstored = xs }) (record { tree = u; kept = ls; was_cut = d; unstored = ys })
@@ -125,7 +140,7 @@ held_is t u ks ls b d xs ys e f g h = rw (e, f, g, h) refl
 
 pub hears_open : (terms : Terms) (c at : ℕ) (piece : List ℕ) (t u : DirectoryEntries) (ks : List (Kept Requester)) (k k' : Kept Requester) (changes now : List ℕ) (was_cut : Bool) → IsAt c at ks → k ≡ get_or ks at k → k.closing ≡ false →
     HearsPiece terms piece t k changes u k' now → was_cut ≡ is_cut k'.cut → HearsAt terms c piece t ks changes u (set ks at k') now was_cut
-unfolding heard
+unfolding heard answered_of_held
 hears_open terms c at piece t u ks k k' changes now was_cut place is still hears told =
     let found = kept_at_is c at ks k place is in
     let put : set ks at k' ≡ changed c (λ _. k') ks = sym (changed_at c at (λ _. k') ks k place is) in
@@ -137,6 +152,7 @@ hears_open terms c at piece t u ks k k' changes now was_cut place is still hears
           rw (found, still, cut_is)
           (held_is u a.tree (set ks at k') (changed c (λ _. heard_piece (rules terms) piece k'.cut k a) ks) (b || was_cut) (b || is_cut k'.cut) now (changes ++ a.changes)
           hears.entries (put ∙ ap (λ x. changed c (λ _. x) ks) hears.kept) (ap (λ x. b || x) told) hears.changes);
+      short = λ b. rw (found, still, cut_is) hears.short;
     }
 
 -- whether a cut is there

@@ -5,6 +5,7 @@ use Rattle.std.proofs.lemmas.Option.{slice_get-get_or, get_or_from_slice_get}
 use Rattle.session_model.proofs.Theorems.{kept_of-number}
 use Rattle.session_model.specs.Run.{most_held}
 use Rattle.session_model.specs.Kept.{Kept, kept_of, is_kept, changed, closed, without_front, taken_off, forgotten, heard, opened_kept}
+use Rattle.session_model.specs.AnsweredMessages.{answered_of_held}
 use Rattle.session_hub.specs.Parties.{Requester}
 use Rattle.session_hub.specs.Terms.{Terms}
 use Rattle.session_hub.specs.declared.event.Event.TheVariants as came
@@ -105,21 +106,21 @@ held_opened terms c ks held absent = record { bounded = bounded_append (opened_k
 
 -- a connection that opens: held already, no room, and room
 pub opens_held : (c : ℕ) (hub : HubState) → is_kept (kept_of c hub.kept) ≡ true → HearsAnywhere (came.Opened c) hub hub
-unfolding heard
-opens_held c hub there = λ entries. record { same = rw there refl }
+unfolding heard answered_of_held
+opens_held c hub there = λ entries. record { same = rw there refl; short = tt }
 
 pub opens_full : (c : ℕ) (hub : HubState) → most_held ≤ length hub.kept → HearsAnywhere (came.Opened c) hub hub
-unfolding heard
-opens_full c hub full = λ entries. record { same = ap (λ ks. record { tree = entries; kept = ks; was_cut = hub.was_cut; unstored = hub.unstored }) (grind (arith, nat_tests)) }
+unfolding heard answered_of_held
+opens_full c hub full = λ entries. record { same = ap (λ ks. record { tree = entries; kept = ks; was_cut = hub.was_cut; unstored = hub.unstored }) (grind (arith, nat_tests)); short = tt }
 
 pub opens_new : (c : ℕ) (hub now : HubState) → is_kept (kept_of c hub.kept) ≡ false → length hub.kept < most_held → now ≡ record hub { kept = hub.kept ++ opened_kept (rules hub.bounds.terms) c ∷ [] } →
     HearsAnywhere (came.Opened c) hub now
-unfolding heard
-opens_new c hub now absent room is = λ entries. record { same = rw is (ap (λ ks. record { tree = entries; kept = ks; was_cut = hub.was_cut; unstored = hub.unstored }) (rw absent (grind (arith, nat_tests)))) }
+unfolding heard answered_of_held
+opens_new c hub now absent room is = λ entries. record { same = rw is (ap (λ ks. record { tree = entries; kept = ks; was_cut = hub.was_cut; unstored = hub.unstored }) (rw absent (grind (arith, nat_tests)))); short = tt }
 
 pub ends : (c : ℕ) (hub now : HubState) → now ≡ record hub { kept = changed c closed hub.kept } → HearsAnywhere (came.Ended c) hub now
-unfolding heard
-ends c hub now is = λ entries. record { same = rw is refl }
+unfolding heard answered_of_held
+ends c hub now is = λ entries. record { same = rw is refl; short = tt }
 
 -- there is something at each place within
 nothing_there : (ks : List (Kept Requester)) (at : ℕ) → at < length ks → slice_get ks at ≡ None → ⊥

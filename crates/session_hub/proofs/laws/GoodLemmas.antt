@@ -6,6 +6,7 @@ use Rattle.session_model.specs.ldap_msg.declared.kinds.AddRequest.{AddRequest}
 use Rattle.session_model.specs.ldap_msg.declared.kinds.DeleteRequest.{DeleteRequest}
 use Rattle.session_model.specs.ldap_msg.declared.kinds.Request.{Request}
 use Rattle.session_model.specs.ldap_msg.declared.kinds.Request.TheVariants as request
+use Rattle.session_model.specs.ldap_msg.declared.kinds.Update.TheVariants as update
 use Rattle.session_model.specs.ldap_msg.declared.kinds.Control.{Control}
 use Rattle.session_model.specs.ldap_msg.declared.kinds.Message.{Message}
 use Rattle.session_model.specs.ldap_msg.reading.Messages.{message_of}
@@ -35,10 +36,10 @@ module _
     operated_good entries who controls (request.Bind bind) good = good
     operated_good entries who controls request.Unbind good = good
     operated_good entries who controls (request.Search search) good = good
-    operated_good entries who controls (request.Modify modify) good = modifies entries who modify good
-    operated_good entries who controls (request.Add add) good = adds entries who add good
-    operated_good entries who controls (request.Delete delete) good = deletes entries who delete good
-    operated_good entries who controls (request.Rename rename) good = renames entries who rename good
+    operated_good entries who controls (request.Update (update.Modify modify)) good = modifies entries who modify good
+    operated_good entries who controls (request.Update (update.Add add)) good = adds entries who add good
+    operated_good entries who controls (request.Update (update.Delete delete)) good = deletes entries who delete good
+    operated_good entries who controls (request.Update (update.Rename rename)) good = renames entries who rename good
     operated_good entries who controls (request.Compare compare) good = good
     operated_good entries who controls (request.Abandon id) good = good
     operated_good entries who controls (request.Extended name value) good = good

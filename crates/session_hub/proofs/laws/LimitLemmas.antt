@@ -16,6 +16,7 @@ use Rattle.session_model.specs.ldap_msg.declared.kinds.Message.{Message}
 use Rattle.session_model.specs.ldap_msg.declared.kinds.LdapResult.{LdapResult}
 use Rattle.session_model.specs.ldap_msg.declared.kinds.Reply.{Reply}
 use Rattle.session_model.specs.ldap_msg.declared.kinds.Reply.TheVariants as reply
+use Rattle.session_model.specs.ldap_msg.declared.operations.Ending.TheVariants as ending
 use Rattle.session_model.specs.ldap_msg.declared.operations.ResultCode.TheVariants as code
 use Rattle.op_read.specs.read_model.Views.{View, has_name, hidden, view_of, result_of}
 use Rattle.op_read.specs.read_model.Selecting.{selected}
@@ -38,10 +39,7 @@ limited-to : (limit : ℕ) (asked : Request) → IsLimitedTo limit asked (limite
 limited-to limit (request.Bind bind) = refl
 limited-to limit request.Unbind = refl
 limited-to limit (request.Search search) = (lesser_limit limit search.size, refl, lesser_within limit search.size)
-limited-to limit (request.Modify modify) = refl
-limited-to limit (request.Add add) = refl
-limited-to limit (request.Delete delete) = refl
-limited-to limit (request.Rename rename) = refl
+limited-to limit (request.Update update) = refl
 limited-to limit (request.Compare compare) = refl
 limited-to limit (request.Abandon id) = refl
 limited-to limit (request.Extended name value) = refl
@@ -54,10 +52,7 @@ limited_request-none : (asked : Request) → limited_request 0 asked ≡ asked
 limited_request-none (request.Bind bind) = refl
 limited_request-none request.Unbind = refl
 limited_request-none (request.Search search) = refl
-limited_request-none (request.Modify modify) = refl
-limited_request-none (request.Add add) = refl
-limited_request-none (request.Delete delete) = refl
-limited_request-none (request.Rename rename) = refl
+limited_request-none (request.Update update) = refl
 limited_request-none (request.Compare compare) = refl
 limited_request-none (request.Abandon id) = refl
 limited_request-none (request.Extended name value) = refl
@@ -70,7 +65,7 @@ entries-le : (replies : List Reply) → entries_among replies ≤ length replies
 entries-le [] = omega arith
 entries-le (reply ∷ replies) = let rest = entries-le replies in grind (arith, nat_tests, rest)
 
-entries-done : (replies : List Reply) (ended : LdapResult) → entries_among (replies ++ reply.Done ended ∷ []) ≡ entries_among replies
+entries-done : (replies : List Reply) (ended : LdapResult) → entries_among (replies ++ reply.Ended ending.Done ended ∷ []) ≡ entries_among replies
 entries-done [] ended = refl
 entries-done (reply ∷ replies) ended = let rest = entries-done replies ended in grind (arith, nat_tests, rest)
 
@@ -84,7 +79,7 @@ found_sends view asked base [] some = omega arith
 found_sends view asked base (first ∷ rest) some =
     let sent = map (sent_entry asked.selection asked.kinds_only) (within_limit asked.size (first ∷ rest)) in
     let ended = result_of (limit_code asked.size (first ∷ rest)) in
-    let end : entries_among (sent ++ reply.Done ended ∷ []) ≡ entries_among sent = entries-done sent ended in
+    let end : entries_among (sent ++ reply.Ended ending.Done ended ∷ []) ≡ entries_among sent = entries-done sent ended in
     let few : entries_among sent ≤ length sent = entries-le sent in
     let same : length sent ≡ length (within_limit asked.size (first ∷ rest)) = length-map (within_limit asked.size (first ∷ rest)) (sent_entry asked.selection asked.kinds_only) in
     let all : length (within_limit asked.size (first ∷ rest)) ≤ asked.size = length-within asked.size (first ∷ rest) some in
@@ -98,7 +93,7 @@ either_sends false xs ys n one other = other
 at_sends : (view : View) (asked : SearchRequest) (subentries : Option Bool) (base : RdnSequence) → 0 < asked.size → entries_among (replies_at view asked subentries base) ≤ asked.size
 unfolding replies_at
 at_sends view asked subentries base some =
-    either_sends (list_any (has_name base) view) (found_replies view asked base (selected view asked subentries base)) (reply.Done (hidden view base) ∷ []) asked.size
+    either_sends (list_any (has_name base) view) (found_replies view asked base (selected view asked subentries base)) (reply.Ended ending.Done (hidden view base) ∷ []) asked.size
     (found_sends view asked base (selected view asked subentries base) some) (omega arith)
 
 -- the root DSE is one entry
@@ -108,8 +103,8 @@ root_sends view asked subentries some =
     let found : List Reply = if finds_root asked subentries then root_entry view asked ∷ [] else [] in
     let one : entries_among found ≤ length found = entries-le found in
     let short : length found ≤ 1 = one_at_most (finds_root asked subentries) (root_entry view asked) in
-    let end : entries_among (found ++ reply.Done (result_of code.Success) ∷ []) ≡ entries_among found = entries-done found (result_of code.Success) in
-    either_sends (is_base asked.scope) (found ++ reply.Done (result_of code.Success) ∷ []) (reply.Done (result_of code.NoSuchObject) ∷ []) asked.size (omega arith) (omega arith)
+    let end : entries_among (found ++ reply.Ended ending.Done (result_of code.Success) ∷ []) ≡ entries_among found = entries-done found (result_of code.Success) in
+    either_sends (is_base asked.scope) (found ++ reply.Ended ending.Done (result_of code.Success) ∷ []) (reply.Ended ending.Done (result_of code.NoSuchObject) ∷ []) asked.size (omega arith) (omega arith)
   where
     one_at_most : (b : Bool) (entry : Reply) → length (if b then entry ∷ [] else []) ≤ 1
     one_at_most true entry = omega arith
@@ -142,7 +137,7 @@ either_list P false xs ys one other = other
 abbrev SendsOrNone : List Reply → Type 0
 SendsOrNone replies = list_any is_success replies ≡ false → entries_among replies ≡ 0
 
-success-last : (sent : List Reply) → list_any is_success (sent ++ reply.Done (result_of code.Success) ∷ []) ≡ true
+success-last : (sent : List Reply) → list_any is_success (sent ++ reply.Ended ending.Done (result_of code.Success) ∷ []) ≡ true
 success-last [] = refl
 success-last (first ∷ rest) = let last = success-last rest in grind (arith, last)
 
@@ -156,7 +151,7 @@ at_none : (view : View) (asked : SearchRequest) (subentries : Option Bool) (base
 unfolding replies_at
 at_none view asked subentries base =
     either_list SendsOrNone (list_any (has_name base) view) (found_replies view (unlimited asked) base (selected view (unlimited asked) subentries base))
-    (reply.Done (hidden view base) ∷ []) (found_none view asked base (selected view (unlimited asked) subentries base)) (λ fails. refl)
+    (reply.Ended ending.Done (hidden view base) ∷ []) (found_none view asked base (selected view (unlimited asked) subentries base)) (λ fails. refl)
 
 -- a page of a named base
 named_none : (view : View) (asked : SearchRequest) (subentries : Option Bool) (rdn : List TypeAndValue) (rdns : RdnSequence) → read_name asked.base ≡ Ok (rdn ∷ rdns)

@@ -9,6 +9,7 @@ use Rattle.dir_tree.specs.dn_names.Reading.{written_of}
 use Rattle.session_model.specs.ldap_msg.declared.kinds.Auth.TheVariants.{Simple}
 use Rattle.session_model.specs.ldap_msg.declared.kinds.BindRequest.{BindRequest}
 use Rattle.session_model.specs.ldap_msg.declared.kinds.Request.TheVariants as request
+use Rattle.session_model.specs.ldap_msg.declared.kinds.Update.TheVariants as update
 use Rattle.session_hub.specs.Twins.{is_read_within, reads_outside}
 
 -- a name of one RDN, and one of the same key below it
@@ -44,7 +45,7 @@ unfolding is_prefix_of is_same name_cmp read_name text_fault resolve written_of
 anonymous_within = refl
 
 -- a delete changes entries, and an abandon doesn't
-a_delete : reads_outside top (request.Delete (record { name = codes "dc=example" })) ≡ false
+a_delete : reads_outside top (request.Update (update.Delete (record { name = codes "dc=example" }))) ≡ false
 a_delete = refl
 
 an_abandon : reads_outside top (request.Abandon 3) ≡ true

@@ -12,6 +12,7 @@ use Rattle.session_model.specs.ldap_msg.declared.kinds.Control.{Control}
 use Rattle.session_model.specs.ldap_msg.declared.kinds.Message.{Message}
 use Rattle.session_model.specs.ldap_msg.declared.kinds.Request.{Request}
 use Rattle.session_model.specs.ldap_msg.declared.kinds.Request.TheVariants as request
+use Rattle.session_model.specs.ldap_msg.declared.kinds.Update.TheVariants as update
 use Rattle.session_model.specs.ldap_msg.declared.operations.Operation.{Operation}
 use Rattle.session_model.specs.ldap_msg.declared.operations.Operation.TheVariants as operation
 use Rattle.session_model.specs.ldap_msg.operations.Operations.{operation_of}
@@ -56,10 +57,10 @@ other_request id controls tag body other = by_operation (operation_of tag) refl
     by_operation (Some operation.Bind) is = absurd (not_bind tag other is)
     by_operation (Some operation.Unbind) is = rw is (other_made id controls (reads End body) (λ parts. request.Unbind) (λ parts. refl))
     by_operation (Some operation.Search) is = rw is (other_made id controls (search_of body) request.Search (λ search. refl))
-    by_operation (Some operation.Modify) is = rw is (other_made id controls (reads modify_layout body) (λ parts. request.Modify (modify_from parts)) (λ parts. refl))
-    by_operation (Some operation.Add) is = rw is (other_made id controls (reads add_layout body) (λ parts. request.Add (add_from parts)) (λ parts. refl))
-    by_operation (Some operation.Delete) is = rw is (other_made id controls (reads AnyOctets body) (λ name. request.Delete (record { name = name })) (λ name. refl))
-    by_operation (Some operation.Rename) is = rw is (other_made id controls (reads rename_layout body) (λ parts. request.Rename (rename_from parts)) (λ parts. refl))
+    by_operation (Some operation.Modify) is = rw is (other_made id controls (reads modify_layout body) (λ parts. request.Update (update.Modify (modify_from parts))) (λ parts. refl))
+    by_operation (Some operation.Add) is = rw is (other_made id controls (reads add_layout body) (λ parts. request.Update (update.Add (add_from parts))) (λ parts. refl))
+    by_operation (Some operation.Delete) is = rw is (other_made id controls (reads AnyOctets body) (λ name. request.Update (update.Delete (record { name = name }))) (λ name. refl))
+    by_operation (Some operation.Rename) is = rw is (other_made id controls (reads rename_layout body) (λ parts. request.Update (update.Rename (rename_from parts))) (λ parts. refl))
     by_operation (Some operation.Compare) is = rw is (other_made id controls (reads compare_layout body) (λ parts. request.Compare (compare_from parts)) (λ parts. refl))
     by_operation (Some operation.Abandon) is = rw is (other_made id controls (reads abandon_layout body) request.Abandon (λ number. refl))
     by_operation (Some operation.Extended) is = rw is (other_made id controls (reads extended_layout body) (λ parts. request.Extended parts.0 parts.1.0) (λ parts. refl))
@@ -116,10 +117,7 @@ message_simple (Some message) id name password is = by_controls message.controls
     by_request (request.Bind bind) asked empty same = by_found bind (credentials_of (Some bind)) refl empty asked same
     by_request request.Unbind asked empty same = absurd (let none : None ≡ Some (id, (name, password)) = same in cc)
     by_request (request.Search searched) asked empty same = absurd (let none : None ≡ Some (id, (name, password)) = same in cc)
-    by_request (request.Modify modify) asked empty same = absurd (let none : None ≡ Some (id, (name, password)) = same in cc)
-    by_request (request.Add add) asked empty same = absurd (let none : None ≡ Some (id, (name, password)) = same in cc)
-    by_request (request.Delete delete) asked empty same = absurd (let none : None ≡ Some (id, (name, password)) = same in cc)
-    by_request (request.Rename rename) asked empty same = absurd (let none : None ≡ Some (id, (name, password)) = same in cc)
+    by_request (request.Update update) asked empty same = absurd (let none : None ≡ Some (id, (name, password)) = same in cc)
     by_request (request.Compare compare) asked empty same = absurd (let none : None ≡ Some (id, (name, password)) = same in cc)
     by_request (request.Abandon number) asked empty same = absurd (let none : None ≡ Some (id, (name, password)) = same in cc)
     by_request (request.Extended kind value) asked empty same = absurd (let none : None ≡ Some (id, (name, password)) = same in cc)

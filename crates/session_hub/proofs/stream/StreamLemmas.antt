@@ -1,11 +1,12 @@
 -- A stream answered message by message from its front.
-use Rattle.std.proofs.Common.{◌≡◌, ◌≤◌, ◌+◌, ◌<◌, ℕ, Bool, true, false, cond, List, [], ◌++◌, length, take, drop, suc, Option, Some, None, refl, inl, inr, ap, ap₂, sym, ◌∙◌, subst, append_assoc, append-nil, drop-drop, length-drop, arith}
+use Rattle.std.proofs.Common.{◌≡◌, ◌≤◌, ◌+◌, ◌<◌, ℕ, Bool, true, false, cond, List, [], ◌++◌, length, take, drop, suc, Option, Some, None, refl, true≢false, inl, inr, ap, ap₂, sym, ◌∙◌, subst, append_assoc, append-nil, drop-drop, length-drop, arith}
 use borrow.Author.Count.{below_more}
 use Rattle.session_model.specs.ldap_msg.declared.kinds.Frame.TheVariants.{Whole, More, Bad}
 use Rattle.session_model.specs.ldap_msg.Streams.{frame_at, whole, rest_of}
 use Rattle.session_model.specs.ldap_msg.Replies.{notice_octets}
-use Rattle.session_model.proofs.ldap_msg_proofs.Theorems.{frame_bound, whole_step, rest_step, rest_more}
-use Rattle.session_model.specs.Rules.{Answered, after_octets}
+use Rattle.session_model.proofs.ldap_msg_proofs.Theorems.{frame_bound, whole_step, rest_step, rest_more, whole_more, whole_bad}
+use Rattle.session_model.specs.Rules.{Answered, after_octets, up_to}
+use Rattle.session_model.specs.AnsweredMessages.{answered_messages}
 use Rattle.session_model.proofs.Theorems.{one_later, speech-whole, speech-more, speech-bad, speech-cut}
 use Rattle.session_hub.specs.Parties.{DirectoryEntries, Requester}
 use Rattle.session_hub.specs.Terms.{Terms}
@@ -15,8 +16,10 @@ use Rattle.session_hub.specs.declared.spoken.SpeechEnd.TheVariants.{StaysOpen, C
 use Rattle.session_hub.specs.Outgoing.{Put}
 use Rattle.session_hub.specs.Answering.{rules}
 use Rattle.session_hub.specs.Rooms.{HasRoom, queued_after}
-use Rattle.session_hub.specs.Answers.{Gives, Speaks, SaysSoFar, MayCut, said_to, behind}
+use Rattle.session_hub.specs.ShortAnswers.{IsAnsweredShort, AreAnsweredShort}
+use Rattle.session_hub.specs.Answers.{Gives, Speaks, SaysSoFar, MayCut, said_to, behind, cut_at}
 use Rattle.session_hub.proofs.messages.AnswerLemmas.{closes_says}
+use Rattle.session_hub.proofs.stream.EachLemmas.{all_first, all_cut, up_to_later, up_to_none}
 
 -- a message at the front of the rest is one there of the stream
 message_fits : (stream : List ℕ) (read n : ℕ) → read ≤ length stream → frame_at (drop read stream) ≡ Whole n → read + n ≤ length stream
@@ -58,6 +61,21 @@ said_open a b h = rw h refl
 said_closed : (a b : Answered DirectoryEntries Requester) → a.closes ≡ true → cond a.closes a (after_octets a.replies a.changes b) ≡ a
 said_closed a b h = rw h refl
 
+-- of a message that is answered the replies are short, and so those of all, where those of the rest are
+short_first : (terms : Terms) (u : DirectoryEntries) (x : Requester) (rest : List ℕ) (n : ℕ) (cut : Option ℕ) → frame_at rest ≡ Whole n
+    → IsAnsweredShort terms (record { tree = u; who = x; message = take n rest })
+    → (((rules terms).answer u x (take n rest)).closes ≡ false → AreAnsweredShort terms ((rules terms).answer u x (take n rest)).tree ((rules terms).answer u x (take n rest)).who (up_to cut (whole (drop n rest))))
+    → AreAnsweredShort terms u x (up_to (one_later cut) (whole rest))
+short_first terms u x rest n cut is first others =
+    subst (λ (messages : List (List ℕ)). AreAnsweredShort terms u x messages)
+    (sym (ap (up_to (one_later cut)) (whole_step rest n is) ∙ up_to_later cut (take n rest) (whole (drop n rest))))
+    (all_first (rules terms) (IsAnsweredShort terms) u x (take n rest) (up_to cut (whole (drop n rest))) first others)
+
+-- those of no message are
+short_none : (terms : Terms) (u : DirectoryEntries) (x : Requester) (messages : List (List ℕ)) → messages ≡ [] → AreAnsweredShort terms u x messages
+unfolding answered_messages
+short_none terms u x messages none = subst (λ (messages : List (List ℕ)). AreAnsweredShort terms u x messages) (sym none) tt
+
 -- nothing was answered yet
 pub so_far_start : (terms : Terms) (room : ℕ) (t : DirectoryEntries) (w : Requester) (stream : List ℕ) (old : Put) → SaysSoFar terms room t w stream old old t w 0 0
 so_far_start terms room t w stream old =
@@ -70,6 +88,7 @@ so_far_start terms room t w stream old =
       complete = omega arith;
       rest = refl;
       spare = λ count some below. absurd (omega arith);
+      short = λ cut short. subst (λ (o : Option ℕ). AreAnsweredShort terms t w (up_to o (whole stream))) (sym (same cut)) short;
       said = λ cut. ap (λ x. said_to terms x t w stream) (same cut);
     }
   where
@@ -101,6 +120,12 @@ cut_here terms room t w stream old now u x read answered so =
     (ap (λ z. said_to terms z t w stream) (sym (behind_none answered)) ∙ so.said (Some 0) ∙ ap (after_octets so.more.replies so.more.changes) (speech-cut (rules terms) u x (drop read stream)))
     (gives_none u x true now)
 
+-- so are the replies to those that were answered
+short_here : (terms : Terms) (room : ℕ) (t : DirectoryEntries) (w : Requester) (stream : List ℕ) (old now : Put) (u : DirectoryEntries) (x : Requester) (read answered : ℕ) →
+    SaysSoFar terms room t w stream old now u x read answered → AreAnsweredShort terms t w (up_to (Some answered) (whole stream))
+short_here terms room t w stream old now u x read answered so =
+    subst (λ (o : Option ℕ). AreAnsweredShort terms t w (up_to o (whole stream))) (behind_none answered) (so.short (Some 0) (short_none terms u x _ (up_to_none (whole (drop read stream)))))
+
 -- what was said so far is within the room, and so is what was said before
 spare_more : (terms : Terms) (room : ℕ) (t : DirectoryEntries) (w : Requester) (stream : List ℕ) (old now : Put) (u : DirectoryEntries) (x : Requester) (read answered : ℕ) →
     SaysSoFar terms room t w stream old now u x read answered → (0 < answered → length now.replies ≤ room) → HasRoom terms room t w stream old.replies (answered + 1)
@@ -112,9 +137,9 @@ spare_more terms room t w stream old now u x read answered so fits = λ count so
 
 -- a message is answered, and the connection stays open
 pub so_far_whole : (terms : Terms) (room : ℕ) (t : DirectoryEntries) (w : Requester) (stream : List ℕ) (old now new : Put) (u v : DirectoryEntries) (x y : Requester) (read answered n : ℕ) →
-    SaysSoFar terms room t w stream old now u x read answered → frame_at (drop read stream) ≡ Whole n → Gives ((rules terms).answer u x (take n (drop read stream))) now new v y false → (0 < answered → length now.replies ≤ room) →
+    SaysSoFar terms room t w stream old now u x read answered → frame_at (drop read stream) ≡ Whole n → Gives ((rules terms).answer u x (take n (drop read stream))) now new v y false → IsAnsweredShort terms (record { tree = u; who = x; message = take n (drop read stream) }) → (0 < answered → length now.replies ≤ room) →
     SaysSoFar terms room t w stream old new v y (read + n) (answered + 1)
-so_far_whole terms room t w stream old now new u v x y read answered n so is gives fits =
+so_far_whole terms room t w stream old now new u v x y read answered n so is gives first fits =
     let rest = drop read stream in
     let a = (rules terms).answer u x (take n rest) in
     let some : 0 < n = message_some rest n is in
@@ -127,6 +152,12 @@ so_far_whole terms room t w stream old now new u v x y read answered n so is giv
       complete = messages_fit stream read n answered so.complete is;
       rest = rest_fits stream read n so.rest is;
       spare = spare_more terms room t w stream old now u x read answered so fits;
+      short = λ cut short.
+          subst (λ (o : Option ℕ). AreAnsweredShort terms t w (up_to o (whole stream))) (sym (behind_one answered cut))
+          (so.short (one_later cut) (short_first terms u x rest n cut is first (λ open_.
+          subst (λ z. AreAnsweredShort terms z a.who (up_to cut (whole (drop n rest)))) gives.left
+          (subst (λ z. AreAnsweredShort terms v z (up_to cut (whole (drop n rest)))) gives.asker
+          (subst (λ octets. AreAnsweredShort terms v y (up_to cut (whole octets))) (sym (drop-drop n read stream)) short)))));
       said = λ cut. (
           let b = said_to terms cut a.tree a.who (drop n rest) in
           let c = said_to terms cut v y (drop (read + n) stream) in
@@ -140,9 +171,9 @@ so_far_whole terms room t w stream old now new u v x y read answered n so is giv
 
 -- a message is answered, and the connection closes
 pub so_far_closed : (terms : Terms) (room : ℕ) (t : DirectoryEntries) (w : Requester) (stream : List ℕ) (old now new : Put) (u v : DirectoryEntries) (x y : Requester) (read answered n : ℕ) →
-    SaysSoFar terms room t w stream old now u x read answered → frame_at (drop read stream) ≡ Whole n → Gives ((rules terms).answer u x (take n (drop read stream))) now new v y true →
+    SaysSoFar terms room t w stream old now u x read answered → frame_at (drop read stream) ≡ Whole n → Gives ((rules terms).answer u x (take n (drop read stream))) now new v y true → IsAnsweredShort terms (record { tree = u; who = x; message = take n (drop read stream) }) →
     Speaks terms room t w stream old new v y (record { read = read; answered = answered; end = Closes })
-so_far_closed terms room t w stream old now new u v x y read answered n so is gives =
+so_far_closed terms room t w stream old now new u v x y read answered n so is gives first =
     let rest = drop read stream in
     let a = (rules terms).answer u x (take n rest) in
     record {
@@ -154,6 +185,7 @@ so_far_closed terms room t w stream old now new u v x y read answered n so is gi
       full = λ h. absurd (cc);
       spare = so.spare;
       complete = answered_within terms room t w stream old now u x read answered so;
+      short = so.short None (short_first terms u x rest n None is first (λ open_. absurd (true≢false (gives.closed ∙ open_))));
       ending = a.replies;
       queued = gives.said ∙ ap (λ octets. octets ++ a.replies) (cut_here terms room t w stream old now u x read answered so).said;
       notice = closes_says terms u x (take n rest) (sym gives.closed);
@@ -171,6 +203,7 @@ so_far_more terms room t w stream old now u x read answered so is =
       full = λ h. absurd (cc);
       spare = so.spare;
       complete = answered_within terms room t w stream old now u x read answered so;
+      short = so.short None (short_none terms u x _ (whole_more (drop read stream) is));
       ending = [];
       queued = (cut_here terms room t w stream old now u x read answered so).said ∙ sym (append-nil (queued_after terms t w stream old.replies answered));
       notice = inl refl;
@@ -190,6 +223,7 @@ so_far_bad terms room t w stream old now new u x read answered so is notice unch
       full = λ h. absurd (cc);
       spare = so.spare;
       complete = answered_within terms room t w stream old now u x read answered so;
+      short = so.short None (short_none terms u x _ (whole_bad (drop read stream) is));
       ending = notice_octets;
       queued = notice ∙ ap (λ octets. octets ++ notice_octets) (cut_here terms room t w stream old now u x read answered so).said;
       notice = inr refl;
@@ -202,13 +236,13 @@ so_far_cut terms room t w stream old now new u v x y read answered so same left 
     subst (λ z. Speaks terms room t w stream old z v y (record { read = read; answered = answered; end = IsCut })) (sym same)
     (subst (λ z. Speaks terms room t w stream old now z y (record { read = read; answered = answered; end = IsCut })) (sym left)
     (subst (λ z. Speaks terms room t w stream old now u z (record { read = read; answered = answered; end = IsCut })) (sym asker)
-    (record { gives = cut_here terms room t w stream old now u x read answered so; within = so.within; unread = λ h. absurd (cc); cuts = λ h. absurd (cc); full = λ h. absurd (cc); spare = so.spare; complete = answered_within terms room t w stream old now u x read answered so; ending = []; queued = (cut_here terms room t w stream old now u x read answered so).said ∙ sym (append-nil (queued_after terms t w stream old.replies answered)); notice = inl refl })))
+    (record { gives = cut_here terms room t w stream old now u x read answered so; within = so.within; unread = λ h. absurd (cc); cuts = λ h. absurd (cc); full = λ h. absurd (cc); spare = so.spare; complete = answered_within terms room t w stream old now u x read answered so; short = short_here terms room t w stream old now u x read answered so; ending = []; queued = (cut_here terms room t w stream old now u x read answered so).said ∙ sym (append-nil (queued_after terms t w stream old.replies answered)); notice = inl refl })))
 
 -- more is queued than there is room for
 pub so_far_full : (terms : Terms) (room : ℕ) (t : DirectoryEntries) (w : Requester) (stream : List ℕ) (old now : Put) (u : DirectoryEntries) (x : Requester) (read answered : ℕ) →
     SaysSoFar terms room t w stream old now u x read answered → room < length now.replies → Speaks terms room t w stream old now u x (record { read = read; answered = answered; end = IsFull })
 so_far_full terms room t w stream old now u x read answered so full =
-    record { gives = cut_here terms room t w stream old now u x read answered so; within = so.within; unread = λ h. absurd (cc); cuts = λ h. absurd (cc); full = λ _. full; spare = so.spare; complete = answered_within terms room t w stream old now u x read answered so; ending = []; queued = (cut_here terms room t w stream old now u x read answered so).said ∙ sym (append-nil (queued_after terms t w stream old.replies answered)); notice = inl refl }
+    record { gives = cut_here terms room t w stream old now u x read answered so; within = so.within; unread = λ h. absurd (cc); cuts = λ h. absurd (cc); full = λ _. full; spare = so.spare; complete = answered_within terms room t w stream old now u x read answered so; short = short_here terms room t w stream old now u x read answered so; ending = []; queued = (cut_here terms room t w stream old now u x read answered so).said ∙ sym (append-nil (queued_after terms t w stream old.replies answered)); notice = inl refl }
 
 -- where a stream that stays open is cut behind all of its messages, the same was said; the replies may stand in another buffer
 pub speaks_kept : (terms : Terms) (room : ℕ) (t : DirectoryEntries) (w : Requester) (stream : List ℕ) (old new kept : Put) (u : DirectoryEntries) (y : Requester) (spoken : Spoken) (end : SpeechEnd) →
@@ -226,6 +260,7 @@ speaks_kept terms room t w stream old new kept u y spoken end speaks may same =
             full = λ h. absurd (cc);
             spare = speaks.spare;
             complete = speaks.complete;
+            short = all_cut (rules terms) (IsAnsweredShort terms) spoken.answered t w (whole stream) (subst (λ e. AreAnsweredShort terms t w (up_to (cut_at e spoken.answered) (whole stream))) cut.0 speaks.short);
             ending = speaks.ending;
             queued = speaks.queued;
             notice = speaks.notice;

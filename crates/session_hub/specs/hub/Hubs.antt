@@ -9,6 +9,7 @@ use Rattle.session_hub.specs.declared.bounds.Bounds.{Bounds}
 use Rattle.session_hub.specs.declared.event.Event.{Event}
 use Rattle.session_hub.specs.declared.event.Event.TheVariants as event
 use Rattle.session_hub.specs.Answering.{rules}
+use Rattle.session_hub.specs.ShortAnswers.{StepsShort}
 use Rattle.session_hub.specs.Event.{step_by, new_cut}
 use Rattle.session_hub.specs.connection.Limits.{most_unread}
 
@@ -28,21 +29,26 @@ held entries hub = record { tree = entries; kept = hub.kept; was_cut = hub.was_c
 abbrev pub no_hub : Bounds → HubState
 no_hub bounds = record { kept = []; was_cut = false; unstored = []; bounds = bounds }
 
--- an event was heard: what is held is what the event's step leaves, cut where the hub tells it
+-- an event was heard: what is held is what the event's step leaves, cut where the hub tells it; and each reply to a message
+-- that the step answers is short, so that it is read again
 pub record Hears (terms : Terms) (came : Event) (old new : Held DirectoryEntries Requester) : Type 0 where
   pub same : new ≡ heard (rules terms) (step_by came old.kept new.kept) old
+  pub short : StepsShort terms (step_by came old.kept new.kept) old
 
 -- the same, whatever the entries are, which stay
 abbrev pub HearsAnywhere : Event → HubState → HubState → Type 0
 HearsAnywhere came old new = (entries : DirectoryEntries) → Hears old.bounds.terms came (held entries old) (held entries new)
 
--- a piece was heard by the connection of a number, if it is held and open; whether it was cut is told
+-- a piece was heard by the connection of a number, if it is held and open; whether it was cut is told; and each reply is short
 pub record HearsAt (terms : Terms) (number : ℕ) (piece : List ℕ) (before : DirectoryEntries) (old : List (Kept Requester)) (unstored : List ℕ)
     (after : DirectoryEntries) (new : List (Kept Requester)) (unstored_after : List ℕ) (was_cut : Bool) : Type 0 where
   pub same : (cut_before : Bool) →
       let cut = new_cut (kept_of number old) (cut_of number new) in
       record { tree = after; kept = new; was_cut = cut_before || was_cut; unstored = unstored_after }
       ≡ heard (rules terms) (Bytes number piece cut) (record { tree = before; kept = old; was_cut = cut_before; unstored = unstored })
+  pub short : (cut_before : Bool) →
+      let cut = new_cut (kept_of number old) (cut_of number new) in
+      StepsShort terms (Bytes number piece cut) (record { tree = before; kept = old; was_cut = cut_before; unstored = unstored })
 
 -- the event opens a connection that is then held
 abbrev pub OpensOne : Event → List (Kept Requester) → Type 0

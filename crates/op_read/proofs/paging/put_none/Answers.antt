@@ -3,11 +3,13 @@ use Rattle.std.proofs.Common.{◌∙◌, ◌∷◌, [], sym, ap}
 use Rattle.std.proofs.lemmas.Result.{on_ok_weaker}
 use Rattle.ldap_msg.specs.declared.kinds.LdapResult.{LdapResult}
 use Rattle.ldap_msg.specs.declared.kinds.Reply.TheVariants as reply
+use Rattle.ldap_msg.specs.declared.operations.Ending.TheVariants as ending
 use Rattle.page_core.specs.read_model.Selecting.{selected}
 use Rattle.page_core.specs.Pages.{unpaged}
 use Rattle.directory.specs.Asking.{view_in}
-use Rattle.op_read.specs.Paging.{page_of_none}
-use Rattle.op_read.proofs.paging.CaseLemmas.{empty-sent, unpaged-sent, none-done, none-fails}
+use Rattle.op_read.specs.Paging.{empty_page, page_of_none}
+use Rattle.op_read.proofs.sending.PutsLemmas.{page-sent, unpaged-sent}
+use Rattle.op_read.proofs.paging.CaseLemmas.{none-done, none-fails}
 use Rattle.op_read.proofs.paging.put_none.Goals as goal
 
 pub returns-then-is_done-clause-ok : goal.returns-then-is_done-clause-ok
@@ -16,11 +18,11 @@ returns-then-is_done-clause-ok g c =
     let search = c.args.search.now in
     let base = c.args.base.now in
     let all = selected view search.request.now search.subentries base in
-    on_ok_weaker c.put_page_end.result
+    on_ok_weaker c.put_end.result
     (λ put.
-    empty-sent search.id c.args.out.now.items c.put_page_end.new.out.items (page_of_none view all base) put
+    page-sent search.id c.args.out.now.items c.put_end.new.out.items empty_page (page_of_none view all base) put
     (none-done view all base (sym c.is_done.ensures.exact ∙ c.if-is_done.true)))
-    c.put_page_end.ensures.ok
+    c.put_end.ensures.ok
 
 pub returns-clause-ok : goal.returns-clause-ok
 returns-clause-ok g c =
@@ -30,7 +32,7 @@ returns-clause-ok g c =
     let all = selected view search.request.now search.subentries base in
     on_ok_weaker c.put_done.result
     (λ put.
-    unpaged-sent search.id c.args.out.now.items c.put_done.new.out.items (reply.Done c.in_ok-ended.ended ∷ []) (page_of_none view all base) put
-    (ap (λ (ended : LdapResult). unpaged (reply.Done ended ∷ [])) c.in_ok-ended.ensures.ok
+    unpaged-sent search.id c.args.out.now.items c.put_done.new.out.items (reply.Ended ending.Done c.in_ok-ended.ended ∷ []) (page_of_none view all base) put
+    (ap (λ (ended : LdapResult). unpaged (reply.Ended ending.Done ended ∷ [])) c.in_ok-ended.ensures.ok
     ∙ none-fails view all base (sym c.is_done.ensures.exact ∙ c.if-is_done.false)))
     c.put_done.ensures.ok

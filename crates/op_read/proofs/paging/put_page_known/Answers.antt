@@ -5,7 +5,8 @@ use Rattle.dir_tree.specs.dn_names.parsing.NameText.{read_name}
 use Rattle.page_core.specs.read_model.SearchReplies.{search_replies}
 use Rattle.page_core.specs.Pages.{page_by, page_replies}
 use Rattle.directory.specs.Asking.{view_in}
-use Rattle.op_read.proofs.paging.CaseLemmas.{page-sent, unpaged-sent, limit-fits, limit-pages}
+use Rattle.op_read.proofs.sending.PutsLemmas.{page-sent, unpaged-sent}
+use Rattle.op_read.proofs.paging.CaseLemmas.{limit-fits, limit-pages}
 use Rattle.op_read.proofs.paging.put_page_known.Goals as goal
 
 pub returns-then-fits_page-clause-ok : goal.returns-then-fits_page-clause-ok

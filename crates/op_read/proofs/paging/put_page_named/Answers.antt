@@ -5,7 +5,8 @@ use Rattle.page_core.specs.read_model.RootEntry.{root_replies}
 use Rattle.page_core.specs.Starts.{start_of}
 use Rattle.directory.specs.Asking.{view_in}
 use Rattle.op_read.specs.Paging.{page_from_at, page_named}
-use Rattle.op_read.proofs.paging.CaseLemmas.{page-sent, unpaged-sent, named-root, named-filled}
+use Rattle.op_read.proofs.sending.PutsLemmas.{page-sent, unpaged-sent}
+use Rattle.op_read.proofs.paging.CaseLemmas.{named-root, named-filled}
 use Rattle.op_read.proofs.paging.put_page_named.Goals as goal
 
 pub returns-then-len-eq0-clause-ok : goal.returns-then-len-eq0-clause-ok

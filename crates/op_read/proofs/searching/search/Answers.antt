@@ -4,8 +4,14 @@ use Rattle.dir_tree.specs.tree.Numbered.{entries_of}
 use Rattle.op_read.proofs.comparing.AlikeLemmas.{sends_alike}
 use Rattle.op_read.proofs.searching.search.Goals as goal
 
+pub returns-clause-ok : goal.returns-clause-ok
+returns-clause-ok g c = on_ok_weaker c.append_replies.result (λ puts. puts.said) c.append_replies.ensures.ok
+
+pub returns-clause-short : goal.returns-clause-short
+returns-clause-short g c = on_ok_weaker c.append_replies.result (λ puts. puts.short) c.append_replies.ensures.ok
+
 pub returns-clause-twins : goal.returns-clause-twins
 returns-clause-twins g c =
     on_ok_weaker c.append_replies.result
-    (sends_alike c.args.who.now (entries_of (g.D.Dir.rows c.args.dir.now)) c.args.id c.args.request.now c.args.subentries c.args.out.now.items _)
+    (λ puts. sends_alike c.args.who.now (entries_of (g.D.Dir.rows c.args.dir.now)) c.args.id c.args.request.now c.args.subentries c.args.out.now.items _ puts.said)
     c.append_replies.ensures.ok

@@ -8,6 +8,7 @@ use Rattle.session_hub.specs.declared.spoken.SpeechEnd.TheVariants.{StaysOpen, I
 use Rattle.session_hub.specs.Answering.{rules}
 use Rattle.session_hub.specs.Outgoing.{put_in}
 use Rattle.session_hub.specs.Answers.{Gives}
+use Rattle.session_hub.specs.ShortAnswers.{IsAnsweredShort}
 use Rattle.session_hub.proofs.messages.KeepLemmas.{put_same}
 use Rattle.session_hub.proofs.stream.StreamLemmas.{so_far_start, so_far_whole, so_far_closed, so_far_more, so_far_bad, so_far_cut, so_far_full}
 use Rattle.session_hub.proofs.stream.FirstLemmas.{gave_some, not_more, first_bind}
@@ -50,6 +51,7 @@ returns-in-Ok-true-clause-said g c =
     let same : c.split_at-in-Whole.result.0.now ≡ take c.in-Whole.length rest = c.split_at-in-Whole.ensures.front ∙ ap (take c.in-Whole.length) c.split_at.ensures.back in
     so_far_closed c.args.allowed.terms c.args.allowed.room _ _ _ _ (put_in c.messages.out) _ _ _ _ _ _ _ c.in-Whole.length c.messages.invariant.0 is
     (subst (λ bytes. Gives ((rules c.args.allowed.terms).answer (entries_of (g.D.Dir.rows c.messages.dir)) c.messages.who bytes) (put_in c.messages.out) (put_in c.answer.new.out) (entries_of (g.D.Dir.rows c.answer.new.dir)) c.answer.new.who true) same (rw c.in-Ok-true.field-0-test at c.in-Ok-true.ensures.ok))
+    (subst (λ bytes. IsAnsweredShort c.args.allowed.terms (record { tree = entries_of (g.D.Dir.rows c.messages.dir); who = c.messages.who; message = bytes })) same c.in-Ok-true.ensures.short)
 
 pub messages-preserved : goal.messages-preserved
 messages-preserved g c =
@@ -57,7 +59,8 @@ messages-preserved g c =
     let is : frame_at rest ≡ Whole c.in-Whole.length = ap frame_at (sym c.split_at.ensures.back) ∙ sym c.in-Whole.ensures.exact in
     let same : c.split_at-in-Whole.result.0.now ≡ take c.in-Whole.length rest = c.split_at-in-Whole.ensures.front ∙ ap (take c.in-Whole.length) c.split_at.ensures.back in (
       so_far_whole c.args.allowed.terms c.args.allowed.room _ _ _ _ (put_in c.messages.out) _ _ _ _ _ _ _ c.in-Whole.length c.messages.invariant.0 is
-          (subst (λ bytes. Gives ((rules c.args.allowed.terms).answer (entries_of (g.D.Dir.rows c.messages.dir)) c.messages.who bytes) (put_in c.messages.out) (put_in c.answer.new.out) (entries_of (g.D.Dir.rows c.answer.new.dir)) c.answer.new.who false) same (rw c.in-Ok-false.field-0-test at c.in-Ok-false.ensures.ok)) (c.is_full.ensures.spare c.if-is_full.false),
+          (subst (λ bytes. Gives ((rules c.args.allowed.terms).answer (entries_of (g.D.Dir.rows c.messages.dir)) c.messages.who bytes) (put_in c.messages.out) (put_in c.answer.new.out) (entries_of (g.D.Dir.rows c.answer.new.dir)) c.answer.new.who false) same (rw c.in-Ok-false.field-0-test at c.in-Ok-false.ensures.ok))
+          (subst (λ bytes. IsAnsweredShort c.args.allowed.terms (record { tree = entries_of (g.D.Dir.rows c.messages.dir); who = c.messages.who; message = bytes })) same c.in-Ok-false.ensures.short) (c.is_full.ensures.spare c.if-is_full.false),
       λ none. absurd (omega arith),
     )
 
