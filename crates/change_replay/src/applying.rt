@@ -20,7 +20,7 @@ use std::alloc::Global;
 // What the change does.
 fn check_update(alloc: Global, tree: &Tree, change: &Update) -> Result<Step, Fault>
     ensures exact { Leads tree.now result (applied_update (entries_of tree.now) change.now) }
-    ensures named { IfOk result HasName }
+    ensures named { IfOk result (HasName tree.now) }
 {
     match change {
         Update::Modify(modify) => check_modify(alloc, tree, modify),
