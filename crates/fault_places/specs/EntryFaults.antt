@@ -22,7 +22,7 @@ place_words (Some superior) =
 abbrev pub misplaced_said : List EntryInformation → ℕ → EntryInformation → List ℕ
 misplaced_said entries line entry = said line (place_words (named_in (superior_name entry.name) entries))
 
--- an entry that breaks the rule: an entry of a file breaks none of the others first, and its limits are a cause of their own
+-- an entry that breaks the rule: one of a file never breaks the first two, and its limits are a cause of their own
 abbrev pub rule_said : List EntryInformation → Record → EntryInformation → EntryRule → List ℕ
 rule_said entries given entry rule.Classes = classes_said given entry
 rule_said entries given entry rule.Syntaxes = unread_said given.lines
