@@ -1,12 +1,14 @@
 -- What a write changes of what a directory keeps (X.501 14.3 and 18.3).
-use Rattle.std.specs.Prelude.{◌≡◌, ◌≢◌, ℕ, Bool, not, ◌&&◌, ◌||◌, if◌then◌else◌, List, Some}
+use Rattle.std.specs.Prelude.{◌≡◌, ◌≢◌, ℕ, Bool, true, false, not, ◌&&◌, ◌||◌, if◌then◌else◌, List, Some}
+use Rattle.std.specs.Option.{option_map_or}
 use Rattle.dir_tree.specs.dn_names.NameOrder.{is_same}
 use Rattle.dir_tree.specs.Entry.{EntryInformation}
-use Rattle.dir_tree.specs.tree.Numbered.{Numbered, entry_of}
+use Rattle.dir_tree.specs.tree.Numbered.{Numbered, entry_of, is_called}
 use Rattle.dir_tree.specs.Points.{is_specific_point, is_inner_point, is_access_subentry}
 use Rattle.acdf_filters.specs.admin_scope.Areas.{is_access_point}
 use Rattle.aci_lists.specs.declared.kept.Holdings.{Holdings}
 use Rattle.aci_lists.specs.kept.Lists.{AreOf, lists_at}
+use Rattle.aci_index.specs.declared.successor.Successor.{Successor}
 
 -- both or neither
 abbrev pub are_alike : Bool → Bool → Bool
@@ -28,6 +30,14 @@ are_ordinary one other = not (is_access_subentry one) && not (is_access_subentry
 -- the one in place of the other changes no lists but its own
 unfoldable pub is_own_change : EntryInformation → EntryInformation → Bool
 is_own_change one other = are_ordinary one other && is_same_point one other
+
+-- whether an entry in the place of that of the number changes no lists but its own; false where the number is not in use
+abbrev pub changes_own : Successor → List Numbered → Bool
+changes_own successor rows = option_map_or (λ old. is_own_change old successor.entry) (entry_of successor.number.0 rows) false
+
+-- an entry that is known to keep the name of the entry of the number keeps it
+abbrev pub KeepsName : Successor → List Numbered → Type 0
+KeepsName successor rows = successor.keeps_name ≡ true → is_called successor.number.0 successor.entry.name rows ≡ true
 
 -- where the number is in use, the lists of its entry are kept
 abbrev pub IsKeptOf : ℕ → Holdings → List Numbered → Type 0

@@ -7,6 +7,7 @@ ghost use Rattle.acdf_filters.specs.Granted.{granted};
 ghost use Rattle.acdf_filters.specs.weighing.Weighing.{AreMemberships};
 
 use crate::posting::{insert_posted, remove_posted, replace_posted};
+use crate::successor::Successor;
 use acdf_filters::aci_item::Permission;
 use acdf_filters::{Item, Membership, Question, Requester};
 use aci_lists::{
@@ -15,7 +16,7 @@ use aci_lists::{
 use dir_tree::schema_tables::AttrId;
 use dir_tree::{Entry, EntryNo, InsertRefusal, NoMemory, RemoveRefusal, ReplaceRefusal, Tree};
 use directory::{Addition, Dir, NumberedEntry};
-use std::alloc::Global;
+use std::alloc::{AllocError, Global};
 use std::marker::Model;
 use value_index::{ValueIndex, index_of};
 
@@ -187,13 +188,35 @@ impl Dir for IndexedDir {
         no: EntryNo,
         entry: Entry,
     ) -> Result<Entry, ReplaceRefusal> {
+        let successor = Successor {
+            number: no,
+            entry,
+            keeps_name: false,
+        };
         replace_posted(
             alloc,
             &mut self.tree,
             &mut self.held,
             &mut self.index,
-            no,
-            entry,
+            successor,
         )
+    }
+
+    fn revise(&mut self, alloc: Global, no: EntryNo, entry: Entry) -> Result<Entry, NoMemory> {
+        let successor = Successor {
+            number: no,
+            entry,
+            keeps_name: true,
+        };
+        match replace_posted(
+            alloc,
+            &mut self.tree,
+            &mut self.held,
+            &mut self.index,
+            successor,
+        ) {
+            Ok(old) => Ok(old),
+            Err(_) => Err(AllocError),
+        }
     }
 }

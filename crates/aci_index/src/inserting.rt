@@ -1,9 +1,8 @@
 //! What is kept, where an entry is put in.
 
-ghost use Rattle.std.specs.Prelude.{◌≡◌, ◌≢◌, ◌⊎◌, [], true, false, Some, None, IfOk, IfErr, OnOk, OnErr};
-ghost use Rattle.dir_tree.specs.tree.Numbered.{entry_of, entries_of, put_entry};
+ghost use Rattle.std.specs.Prelude.{◌≡◌, ◌≢◌, [], false};
 ghost use Rattle.dir_tree.specs.Points.{is_access_subentry};
-ghost use Rattle.dir_tree.specs.Refusals.{insert_refusal};
+ghost use Rattle.dir_tree.specs.Effects.{Inserts};
 ghost use Rattle.aci_lists.specs.kept.Holdings.{IsHeld};
 
 use crate::anew::{Reach, make_anew_with_room, put_anew, top};
@@ -22,12 +21,7 @@ fn insert_ordinary(
     requires named { entry.name ≢ [] }
     requires ordinary { is_access_subentry entry ≡ false }
     requires held { IsHeld held.old tree.old }
-    ensures ok { IfOk result (λ number. tree.new ≡ put_entry number.0 entry tree.old) }
-    ensures free { IfOk result (λ number. entry_of number.0 tree.old ≡ None) }
-    ensures exact { OnOk result (insert_refusal entry.name (entries_of tree.old) ≡ None) }
-    ensures cause { IfErr result (λ refusal. (refusal ≡ InsertRefusal.NoMemory)
-        ⊎ (insert_refusal entry.name (entries_of tree.old) ≡ Some refusal)) }
-    ensures kept { OnErr result (tree.new ≡ tree.old) }
+    ensures exact { Inserts entry tree.old result tree.new }
     ensures held { IsHeld held.new tree.new }
 {
     tree.entries_form_a_tree();
@@ -52,12 +46,7 @@ fn insert_around(
 ) -> Result<EntryNo, InsertRefusal>
     requires named { entry.name ≢ [] }
     requires held { IsHeld held.old tree.old }
-    ensures ok { IfOk result (λ number. tree.new ≡ put_entry number.0 entry tree.old) }
-    ensures free { IfOk result (λ number. entry_of number.0 tree.old ≡ None) }
-    ensures exact { OnOk result (insert_refusal entry.name (entries_of tree.old) ≡ None) }
-    ensures cause { IfErr result (λ refusal. (refusal ≡ InsertRefusal.NoMemory)
-        ⊎ (insert_refusal entry.name (entries_of tree.old) ≡ Some refusal)) }
-    ensures kept { OnErr result (tree.new ≡ tree.old) }
+    ensures exact { Inserts entry tree.old result tree.new }
     ensures held { IsHeld held.new tree.new }
 {
     tree.entries_form_a_tree();
@@ -85,12 +74,7 @@ fn insert_subentry(
 ) -> Result<EntryNo, InsertRefusal>
     requires named { entry.name ≢ [] }
     requires held { IsHeld held.old tree.old }
-    ensures ok { IfOk result (λ number. tree.new ≡ put_entry number.0 entry tree.old) }
-    ensures free { IfOk result (λ number. entry_of number.0 tree.old ≡ None) }
-    ensures exact { OnOk result (insert_refusal entry.name (entries_of tree.old) ≡ None) }
-    ensures cause { IfErr result (λ refusal. (refusal ≡ InsertRefusal.NoMemory)
-        ⊎ (insert_refusal entry.name (entries_of tree.old) ≡ Some refusal)) }
-    ensures kept { OnErr result (tree.new ≡ tree.old) }
+    ensures exact { Inserts entry tree.old result tree.new }
     ensures held { IsHeld held.new tree.new }
 {
     match make_lists(alloc, tree, held, &entry) {
@@ -109,12 +93,7 @@ pub(crate) fn insert_step(
 ) -> Result<EntryNo, InsertRefusal>
     requires named { entry.name ≢ [] }
     requires held { IsHeld held.old tree.old }
-    ensures ok { IfOk result (λ number. tree.new ≡ put_entry number.0 entry tree.old) }
-    ensures free { IfOk result (λ number. entry_of number.0 tree.old ≡ None) }
-    ensures exact { OnOk result (insert_refusal entry.name (entries_of tree.old) ≡ None) }
-    ensures cause { IfErr result (λ refusal. (refusal ≡ InsertRefusal.NoMemory)
-        ⊎ (insert_refusal entry.name (entries_of tree.old) ≡ Some refusal)) }
-    ensures kept { OnErr result (tree.new ≡ tree.old) }
+    ensures exact { Inserts entry tree.old result tree.new }
     ensures held { IsHeld held.new tree.new }
 {
     if entry.is_access_subentry() {

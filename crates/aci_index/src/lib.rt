@@ -10,6 +10,7 @@ mod posting;
 mod putting;
 mod removing;
 mod replacing;
+mod successor;
 
 pub use acdf_filters;
 pub use aci_lists;

@@ -1,13 +1,15 @@
 //! Which lists an entry changes that takes another's place.
 
-ghost use Rattle.std.specs.Prelude.{◌≡◌, false};
+ghost use Rattle.std.specs.Prelude.{◌≡◌, true};
 ghost use Rattle.std.specs.Option.{option_map_or};
 ghost use Rattle.dir_tree.specs.tree.Numbered.{entry_of};
+ghost use Rattle.dir_tree.specs.dn_names.NameOrder.{is_same};
 ghost use Rattle.acdf_filters.specs.admin_scope.Areas.{is_access_point};
 ghost use Rattle.aci_index.specs.Reach.{reach_of};
-ghost use Rattle.aci_index.specs.Steps.{are_alike, are_ordinary, has_same_roles, is_same_point, is_own_change};
+ghost use Rattle.aci_index.specs.Steps.{are_alike, are_ordinary, changes_own, has_same_roles, is_same_point, is_own_change, KeepsName};
 
 use crate::anew::Reach;
+use crate::successor::Successor;
 use acdf_filters::admin_scope::{is_inner_point, is_specific_point};
 use dir_tree::dn_names::same;
 use dir_tree::{Entry, EntryNo, Tree};
@@ -34,11 +36,21 @@ fn has_same_roles(one: &Entry, other: &Entry) -> bool
         && are_alike(is_inner_point(one), is_inner_point(other))
 }
 
-// Whether the two are the same as points.
-fn is_same_point(one: &Entry, other: &Entry) -> bool
-    ensures exact { result ≡ is_same_point one.now other.now }
+// Whether the entry that is to come has the name of the old one.
+fn has_same_name(old: &Entry, successor: &Successor) -> bool
+    requires named { successor.now.keeps_name ≡ true → is_same successor.now.entry.name old.now.name ≡ true }
+    ensures exact { result ≡ is_same old.now.name successor.now.entry.name }
 {
-    has_same_roles(one, other) && (!is_access_point(one) || same(one.name(), other.name()))
+    successor.keeps_name || same(old.name(), successor.entry.name())
+}
+
+// Whether the two are the same as points.
+fn is_same_point(old: &Entry, successor: &Successor) -> bool
+    requires named { successor.now.keeps_name ≡ true → is_same successor.now.entry.name old.now.name ≡ true }
+    ensures exact { result ≡ is_same_point old.now successor.now.entry }
+{
+    has_same_roles(old, &successor.entry)
+        && (!is_access_point(old) || has_same_name(old, successor))
 }
 
 // Whether neither is an access control subentry.
@@ -48,20 +60,22 @@ fn are_ordinary(one: &Entry, other: &Entry) -> bool
     !one.is_access_subentry() && !other.is_access_subentry()
 }
 
-// Whether the one in place of the other changes no lists but its own.
+// Whether the one that is to come changes no lists but its own in place of the old one.
 #[tactic(auto, unfolding(crate::specs::Steps::is_own_change))]
-fn is_own_change(one: &Entry, other: &Entry) -> bool
-    ensures exact { result ≡ is_own_change one.now other.now }
+fn is_own_change(old: &Entry, successor: &Successor) -> bool
+    requires named { successor.now.keeps_name ≡ true → is_same successor.now.entry.name old.now.name ≡ true }
+    ensures exact { result ≡ is_own_change old.now successor.now.entry }
 {
-    are_ordinary(one, other) && is_same_point(one, other)
+    are_ordinary(old, &successor.entry) && is_same_point(old, successor)
 }
 
 /// Whether the entry in place of that of the number changes no lists but its own; false where the number is not in use.
-pub(crate) fn changes_own(tree: &Tree, number: EntryNo, entry: &Entry) -> bool
-    ensures exact { result ≡ option_map_or (λ old. is_own_change old entry.now) (entry_of number.0 tree.now) false }
+pub(crate) fn changes_own(tree: &Tree, successor: &Successor) -> bool
+    requires named { KeepsName successor.now tree.now }
+    ensures exact { result ≡ changes_own successor.now tree.now }
 {
-    match tree.at(number) {
-        Some(old) => is_own_change(old, entry),
+    match tree.at(successor.number) {
+        Some(old) => is_own_change(old, successor),
         None => false,
     }
 }

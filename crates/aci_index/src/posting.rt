@@ -1,16 +1,19 @@
 //! The index of values beside what decisions need, where the tree is changed: all or nothing.
 
-ghost use Rattle.std.specs.Prelude.{◌≡◌, ◌≢◌, ◌⊎◌, [], Some, None, IfOk, IfErr, OnOk, OnErr};
+ghost use Rattle.std.specs.Prelude.{◌≡◌, ◌≢◌, [], Some, None, IfOk};
 ghost use Rattle.dir_tree.specs.Entry.{EntryInformation};
-ghost use Rattle.dir_tree.specs.tree.Numbered.{entry_of, entries_of, put_entry, without};
-ghost use Rattle.dir_tree.specs.Refusals.{insert_refusal, remove_refusal, replace_refusal};
+ghost use Rattle.dir_tree.specs.tree.Numbered.{entry_of, without};
+ghost use Rattle.dir_tree.specs.Refusals.{remove_refusal};
+ghost use Rattle.dir_tree.specs.Effects.{Inserts, RemovesWithoutMemory, Replaces};
 ghost use Rattle.value_index.specs.Hashes.{hashes_of};
 ghost use Rattle.aci_lists.specs.kept.Holdings.{IsHeld};
 ghost use Rattle.aci_index.specs.Kept.{AreKept};
+ghost use Rattle.aci_index.specs.Steps.{KeepsName};
 
 use crate::inserting::insert_step;
 use crate::removing::remove_step;
 use crate::replacing::replace_step;
+use crate::successor::Successor;
 use aci_lists::Holdings;
 use dir_tree::{Entry, EntryNo, InsertRefusal, NoMemory, RemoveRefusal, ReplaceRefusal, Tree};
 use std::alloc::Global;
@@ -40,12 +43,7 @@ pub(crate) fn insert_posted(
 ) -> Result<EntryNo, InsertRefusal>
     requires named { entry.name ≢ [] }
     requires kept { AreKept held.old index.old tree.old }
-    ensures ok { IfOk result (λ number. tree.new ≡ put_entry number.0 entry tree.old) }
-    ensures free { IfOk result (λ number. entry_of number.0 tree.old ≡ None) }
-    ensures exact { OnOk result (insert_refusal entry.name (entries_of tree.old) ≡ None) }
-    ensures cause { IfErr result (λ refusal. (refusal ≡ InsertRefusal.NoMemory)
-        ⊎ (insert_refusal entry.name (entries_of tree.old) ≡ Some refusal)) }
-    ensures stays { OnErr result (tree.new ≡ tree.old) }
+    ensures exact { Inserts entry tree.old result tree.new }
     ensures kept { AreKept held.new index.new tree.new }
 {
     let Ok(hashes) = hashes_of(alloc, &entry) else {
@@ -72,11 +70,7 @@ pub(crate) fn remove_posted(
     number: EntryNo,
 ) -> Result<Entry, RemoveRefusal>
     requires kept { AreKept held.old index.old tree.old }
-    ensures found { IfOk result (λ entry. entry_of number.0 tree.old ≡ Some entry) }
-    ensures ok { OnOk result (tree.new ≡ without number.0 tree.old) }
-    ensures exact { OnOk result (remove_refusal number.0 tree.old ≡ None) }
-    ensures cause { IfErr result (λ refusal. remove_refusal number.0 tree.old ≡ Some refusal) }
-    ensures stays { OnErr result (tree.new ≡ tree.old) }
+    ensures exact { RemovesWithoutMemory number.0 tree.old result tree.new }
     ensures kept { AreKept held.new index.new tree.new }
 {
     let entry = remove_step(alloc, tree, held, number)?;
@@ -102,26 +96,22 @@ pub(crate) fn replace_posted(
     tree: &mut Tree,
     held: &mut Holdings,
     index: &mut ValueIndex,
-    number: EntryNo,
-    entry: Entry,
+    successor: Successor,
 ) -> Result<Entry, ReplaceRefusal>
+    requires named { KeepsName successor tree.old }
     requires kept { AreKept held.old index.old tree.old }
-    ensures found { IfOk result (λ old. entry_of number.0 tree.old ≡ Some old) }
-    ensures ok { OnOk result (tree.new ≡ put_entry number.0 entry (without number.0 tree.old)) }
-    ensures exact { OnOk result (replace_refusal number.0 entry.name tree.old ≡ None) }
-    ensures cause { IfErr result (λ refusal. (refusal ≡ ReplaceRefusal.NoMemory)
-        ⊎ (replace_refusal number.0 entry.name tree.old ≡ Some refusal)) }
-    ensures stays { OnErr result (tree.new ≡ tree.old) }
+    ensures exact { Replaces successor.number.0 successor.entry tree.old result tree.new }
     ensures kept { AreKept held.new index.new tree.new }
 {
+    let number = successor.number;
     let Ok(before) = hashes_at(alloc, tree, number) else {
         return Err(ReplaceRefusal::NoMemory);
     };
-    let Ok(after) = hashes_of(alloc, &entry) else {
+    let Ok(after) = hashes_of(alloc, &successor.entry) else {
         return Err(ReplaceRefusal::NoMemory);
     };
     match index.add(number, &after) {
-        Ok(()) => match replace_step(alloc, tree, held, number, entry) {
+        Ok(()) => match replace_step(alloc, tree, held, successor) {
             Ok(old) => {
                 index.drop_but(number, &before, &after);
                 Ok(old)

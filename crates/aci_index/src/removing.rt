@@ -1,9 +1,8 @@
 //! What is kept, where an entry is taken out.
 
-ghost use Rattle.std.specs.Prelude.{◌≡◌, ◌⊎◌, true, false, Some, None, IfOk, IfErr, OnOk, OnErr};
-ghost use Rattle.dir_tree.specs.tree.Numbered.{entry_of, without};
+ghost use Rattle.std.specs.Prelude.{◌≡◌, true, false};
 ghost use Rattle.dir_tree.specs.Points.{is_access_subentry};
-ghost use Rattle.dir_tree.specs.Refusals.{remove_refusal};
+ghost use Rattle.dir_tree.specs.Effects.{RemovesWithoutMemory};
 ghost use Rattle.aci_lists.specs.kept.Holdings.{IsForgotten, IsHeld};
 ghost use Rattle.aci_lists.specs.kept.Lists.{lists_at, no_lists};
 ghost use Rattle.aci_index.specs.Steps.{OthersStay};
@@ -33,11 +32,7 @@ pub(crate) fn remove_step(
     number: EntryNo,
 ) -> Result<Entry, RemoveRefusal>
     requires held { IsHeld held.old tree.old }
-    ensures found { IfOk result (λ entry. entry_of number.0 tree.old ≡ Some entry) }
-    ensures ok { OnOk result (tree.new ≡ without number.0 tree.old) }
-    ensures exact { OnOk result (remove_refusal number.0 tree.old ≡ None) }
-    ensures cause { IfErr result (λ refusal. remove_refusal number.0 tree.old ≡ Some refusal) }
-    ensures kept { OnErr result (tree.new ≡ tree.old) }
+    ensures exact { RemovesWithoutMemory number.0 tree.old result tree.new }
     ensures held { IsHeld held.new tree.new }
 {
     tree.entries_form_a_tree();

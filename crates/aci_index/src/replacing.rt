@@ -1,18 +1,17 @@
 //! What is kept, where an entry takes another's place.
 
-ghost use Rattle.std.specs.Prelude.{◌≡◌, ◌<◌, ◌⊎◌, true, false, length, Some, None, IfOk, IfErr, OnOk, OnErr};
-ghost use Rattle.std.specs.Option.{option_map_or};
-ghost use Rattle.dir_tree.specs.tree.Numbered.{entry_of, put_entry, without};
-ghost use Rattle.dir_tree.specs.Refusals.{replace_refusal};
+ghost use Rattle.std.specs.Prelude.{◌≡◌, ◌<◌, true, length, OnOk};
+ghost use Rattle.dir_tree.specs.Effects.{Replaces};
 ghost use Rattle.acdf_filters.specs.admin_scope.Finding.{AreSubtrees};
 ghost use Rattle.aci_lists.specs.kept.Lists.{AreOf, lists_of};
 ghost use Rattle.aci_lists.specs.kept.Holdings.{IsHeld};
 ghost use Rattle.aci_index.specs.Reach.{AreBelow};
-ghost use Rattle.aci_index.specs.Steps.{AllStay, is_own_change};
+ghost use Rattle.aci_index.specs.Steps.{AllStay, KeepsName, changes_own};
 
 use crate::anew::{Anew, Reach, make_anew, no_anew, put_anew, top};
 use crate::points::{changes_own, reach_at};
 use crate::putting::{make_lists, make_ready, make_room, put_own};
+use crate::successor::{Successor, put_successor, put_successor_read};
 use aci_lists::{Holdings, Kept};
 use dir_tree::{Entry, EntryNo, NoMemory, ReplaceRefusal, Tree, TreeReader};
 use std::alloc::Global;
@@ -21,24 +20,20 @@ use std::alloc::Global;
 fn put_in_place(
     tree: &mut Tree,
     held: &mut Holdings,
-    number: EntryNo,
-    entry: Entry,
+    successor: Successor,
     lists: Kept,
 ) -> Result<Entry, ReplaceRefusal>
-    requires own { option_map_or (λ old. is_own_change old entry) (entry_of number.0 tree.old) false ≡ true }
+    requires named { KeepsName successor tree.old }
+    requires own { changes_own successor tree.old ≡ true }
     requires held { IsHeld held.old tree.old }
-    requires lists { AreOf tree.old entry (lists_of lists) }
-    requires room { number.0 < length held.old.lists.items }
-    ensures found { IfOk result (λ old. entry_of number.0 tree.old ≡ Some old) }
-    ensures ok { OnOk result (tree.new ≡ put_entry number.0 entry (without number.0 tree.old)) }
-    ensures exact { OnOk result (replace_refusal number.0 entry.name tree.old ≡ None) }
-    ensures cause { IfErr result (λ refusal. (refusal ≡ ReplaceRefusal.NoMemory)
-        ⊎ (replace_refusal number.0 entry.name tree.old ≡ Some refusal)) }
-    ensures kept { OnErr result (tree.new ≡ tree.old) }
+    requires lists { AreOf tree.old successor.entry (lists_of lists) }
+    requires room { successor.number.0 < length held.old.lists.items }
+    ensures exact { Replaces successor.number.0 successor.entry tree.old result tree.new }
     ensures held { IsHeld held.new tree.new }
 {
+    let number = successor.number;
     tree.entries_form_a_tree();
-    let old = tree.replace(number, entry)?;
+    let old = put_successor(tree, successor)?;
     tree.entries_form_a_tree();
     put_own(held, number, lists);
     Ok(old)
@@ -50,21 +45,16 @@ fn replace_own(
     alloc: Global,
     tree: &mut Tree,
     held: &mut Holdings,
-    number: EntryNo,
-    entry: Entry,
+    successor: Successor,
 ) -> Result<Entry, ReplaceRefusal>
-    requires own { option_map_or (λ old. is_own_change old entry) (entry_of number.0 tree.old) false ≡ true }
+    requires named { KeepsName successor tree.old }
+    requires own { changes_own successor tree.old ≡ true }
     requires held { IsHeld held.old tree.old }
-    ensures found { IfOk result (λ old. entry_of number.0 tree.old ≡ Some old) }
-    ensures ok { OnOk result (tree.new ≡ put_entry number.0 entry (without number.0 tree.old)) }
-    ensures exact { OnOk result (replace_refusal number.0 entry.name tree.old ≡ None) }
-    ensures cause { IfErr result (λ refusal. (refusal ≡ ReplaceRefusal.NoMemory)
-        ⊎ (replace_refusal number.0 entry.name tree.old ≡ Some refusal)) }
-    ensures kept { OnErr result (tree.new ≡ tree.old) }
+    ensures exact { Replaces successor.number.0 successor.entry tree.old result tree.new }
     ensures held { IsHeld held.new tree.new }
 {
-    match make_ready(alloc, tree, held, number, &entry) {
-        Ok(lists) => put_in_place(tree, held, number, entry, lists),
+    match make_ready(alloc, tree, held, successor.number, &successor.entry) {
+        Ok(lists) => put_in_place(tree, held, successor, lists),
         Err(_) => Err(ReplaceRefusal::NoMemory),
     }
 }
@@ -115,20 +105,16 @@ fn replace_reached(
     alloc: Global,
     tree: &mut Tree,
     held: &mut Holdings,
-    number: EntryNo,
-    entry: Entry,
+    successor: Successor,
 ) -> Result<Entry, ReplaceRefusal>
+    requires named { KeepsName successor tree.old }
     requires held { IsHeld held.old tree.old }
     requires room { AreBelow (length held.old.lists.items) tree.old }
-    ensures found { IfOk result (λ old. entry_of number.0 tree.old ≡ Some old) }
-    ensures ok { OnOk result (tree.new ≡ put_entry number.0 entry (without number.0 tree.old)) }
-    ensures exact { OnOk result (replace_refusal number.0 entry.name tree.old ≡ None) }
-    ensures cause { IfErr result (λ refusal. (refusal ≡ ReplaceRefusal.NoMemory)
-        ⊎ (replace_refusal number.0 entry.name tree.old ≡ Some refusal)) }
-    ensures kept { OnErr result (tree.new ≡ tree.old) }
+    ensures exact { Replaces successor.number.0 successor.entry tree.old result tree.new }
     ensures held { IsHeld held.new tree.new }
 {
-    let reach = reach_at(tree, number, &entry);
+    let number = successor.number;
+    let reach = reach_at(tree, number, &successor.entry);
     let mut remaker = Remaker {
         alloc,
         number,
@@ -137,7 +123,7 @@ fn replace_reached(
         anew: no_anew(alloc),
     };
     tree.entries_form_a_tree();
-    let old = tree.replace_read(number, entry, &mut remaker)?;
+    let old = put_successor_read(tree, successor, &mut remaker)?;
     tree.entries_form_a_tree();
     put_anew(held, remaker.anew);
     Ok(old)
@@ -148,20 +134,15 @@ fn replace_other(
     alloc: Global,
     tree: &mut Tree,
     held: &mut Holdings,
-    number: EntryNo,
-    entry: Entry,
+    successor: Successor,
 ) -> Result<Entry, ReplaceRefusal>
+    requires named { KeepsName successor tree.old }
     requires held { IsHeld held.old tree.old }
-    ensures found { IfOk result (λ old. entry_of number.0 tree.old ≡ Some old) }
-    ensures ok { OnOk result (tree.new ≡ put_entry number.0 entry (without number.0 tree.old)) }
-    ensures exact { OnOk result (replace_refusal number.0 entry.name tree.old ≡ None) }
-    ensures cause { IfErr result (λ refusal. (refusal ≡ ReplaceRefusal.NoMemory)
-        ⊎ (replace_refusal number.0 entry.name tree.old ≡ Some refusal)) }
-    ensures kept { OnErr result (tree.new ≡ tree.old) }
+    ensures exact { Replaces successor.number.0 successor.entry tree.old result tree.new }
     ensures held { IsHeld held.new tree.new }
 {
-    match make_all_ready(alloc, tree, held, &entry) {
-        Ok(()) => replace_reached(alloc, tree, held, number, entry),
+    match make_all_ready(alloc, tree, held, &successor.entry) {
+        Ok(()) => replace_reached(alloc, tree, held, successor),
         Err(_) => Err(ReplaceRefusal::NoMemory),
     }
 }
@@ -172,21 +153,16 @@ pub(crate) fn replace_step(
     alloc: Global,
     tree: &mut Tree,
     held: &mut Holdings,
-    number: EntryNo,
-    entry: Entry,
+    successor: Successor,
 ) -> Result<Entry, ReplaceRefusal>
+    requires named { KeepsName successor tree.old }
     requires held { IsHeld held.old tree.old }
-    ensures found { IfOk result (λ old. entry_of number.0 tree.old ≡ Some old) }
-    ensures ok { OnOk result (tree.new ≡ put_entry number.0 entry (without number.0 tree.old)) }
-    ensures exact { OnOk result (replace_refusal number.0 entry.name tree.old ≡ None) }
-    ensures cause { IfErr result (λ refusal. (refusal ≡ ReplaceRefusal.NoMemory)
-        ⊎ (replace_refusal number.0 entry.name tree.old ≡ Some refusal)) }
-    ensures kept { OnErr result (tree.new ≡ tree.old) }
+    ensures exact { Replaces successor.number.0 successor.entry tree.old result tree.new }
     ensures held { IsHeld held.new tree.new }
 {
-    if changes_own(tree, number, &entry) {
-        replace_own(alloc, tree, held, number, entry)
+    if changes_own(tree, &successor) {
+        replace_own(alloc, tree, held, successor)
     } else {
-        replace_other(alloc, tree, held, number, entry)
+        replace_other(alloc, tree, held, successor)
     }
 }

@@ -9,6 +9,7 @@ pub mod members
 pub mod AciText
 -- what the rules of entries are said in: they and a decision share them
 pub mod Listed
+pub mod EntryRule
 pub mod Rules
 -- for the inside of the crate alone
 pub mod Rows

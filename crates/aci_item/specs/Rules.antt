@@ -1,5 +1,5 @@
--- When an entry may not stand in a tree: the rules in the order in which they are tried, each with its result code
--- (RFC 4511 appendix A). X.501 and X.511 leave the order open; it is this profile's.
+-- When an entry may not stand in a tree: the rules in the order in which they are tried, each below the result code that
+-- tells of it (RFC 4511 appendix A). X.501 and X.511 leave the order open; it is this profile's.
 use Rattle.std.specs.Prelude.{◌≡◌, ◌≢◌, ℕ, nat_lt, nat_le, ◌==◌, Bool, false, not, ◌&&◌, ◌||◌, List, [], ◌∷◌, ◌++◌, length, find, sum_by, codes, Option, Some, None, is_none, is_err}
 use Rattle.std.specs.List.{AllByRecursion, list_any, list_all}
 use Rattle.std.specs.Option.{option_map, option_map_or}
@@ -7,6 +7,8 @@ use Rattle.dir_tree.specs.schema_tables.declared.kinds.Syntax.{Syntax}
 use Rattle.dir_tree.specs.schema_tables.declared.kinds.Syntax.TheVariants.{Text, Ascii, Phone, Country, Octets, Oid, Name, Subtree, Aci}
 use Rattle.dir_tree.specs.schema_tables.Attributes.{is_single, syntax_of}
 use Rattle.dir_tree.specs.schema_tables.classes.Classes.{class_with}
+use Rattle.aci_item.specs.declared.entry_rule.EntryRule.{EntryRule}
+use Rattle.aci_item.specs.declared.entry_rule.EntryRule.TheVariants.{RdnValues, StructuralClass, Classes, Syntaxes, SingleValues, Place, Limits}
 use Rattle.aci_item.specs.AciText.{read_item}
 use Rattle.dir_tree.specs.dn_names.name.Names.{Keyed, last_rdn}
 use Rattle.dir_tree.specs.dn_names.name.GoodNames.{IsGoodName}
@@ -151,26 +153,27 @@ is_past_limits others entry =
     || is_access_subentry entry && nat_le most_subentries (access_subentries others)
     || nat_lt most_octets_in (octets_in entry)
 
--- a rule: its result code, and whether an entry breaks it that takes the place of an old one, or of none, among others
+-- a row of the rules: which it is, and whether an entry breaks it that takes the place of an old one, or of none, among
+-- others
 pub record Rule : Type 0 where
-  pub code : ℕ
+  pub rule : EntryRule
   pub breaks : Option EntryInformation → List EntryInformation → EntryInformation → Bool
 
 -- the rules, in the order in which they are tried
 abbrev pub rules : List Rule
 rules =
-    record { code = 67; breaks = λ old others. lacks_own_value }
-    ∷ record { code = 69; breaks = λ old others. has_other_structural old }
-    ∷ record { code = 65; breaks = λ old others. breaks_classes }
-    ∷ record { code = 21; breaks = λ old others. has_unread }
-    ∷ record { code = 19; breaks = λ old others. has_two_values }
-    ∷ record { code = 64; breaks = is_misplaced }
-    ∷ record { code = 11; breaks = λ old. is_past_limits }
+    record { rule = RdnValues; breaks = λ old others. lacks_own_value }
+    ∷ record { rule = StructuralClass; breaks = λ old others. has_other_structural old }
+    ∷ record { rule = Classes; breaks = λ old others. breaks_classes }
+    ∷ record { rule = Syntaxes; breaks = λ old others. has_unread }
+    ∷ record { rule = SingleValues; breaks = λ old others. has_two_values }
+    ∷ record { rule = Place; breaks = is_misplaced }
+    ∷ record { rule = Limits; breaks = λ old. is_past_limits }
     ∷ []
 
--- the code of the first rule that the entry breaks, in the place of an old one or of none, among the others
-unfoldable pub broken_rule : Option EntryInformation → List EntryInformation → EntryInformation → Option ℕ
-broken_rule old others entry = option_map (λ rule. rule.code) (find (λ rule. rule.breaks old others entry) rules)
+-- the first rule that the entry breaks, in the place of an old one or of none, among the others
+unfoldable pub broken_rule : Option EntryInformation → List EntryInformation → EntryInformation → Option EntryRule
+broken_rule old others entry = option_map (λ row. row.rule) (find (λ row. row.breaks old others entry) rules)
 
 -- the entry breaks none of them
 pub record Meets (old : Option EntryInformation) (others : List EntryInformation) (entry : EntryInformation) : Type 0 where

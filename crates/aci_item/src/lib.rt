@@ -3,6 +3,7 @@
 
 mod bits;
 mod classes;
+mod entry_rule;
 mod item;
 mod kind_printing;
 mod level;
@@ -18,6 +19,7 @@ mod splitting;
 
 pub use bits::Bits;
 pub use classes::UserClasses;
+pub use entry_rule::EntryRule;
 pub use gser_tree;
 pub use item::{AciItem, First, ItemPermission, UserPermission};
 pub use level::Level;

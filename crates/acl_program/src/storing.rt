@@ -16,7 +16,7 @@ use command_words::Serving;
 use std::alloc::Global;
 
 /// Why nothing is ready to be served.
-#[derive(Clone, Copy, Debug, PartialEq)]
+#[derive(Clone, Copy, Debug)]
 pub(crate) enum Unready {
     /// A file wasn't taken.
     Files(Trouble),

@@ -11,6 +11,7 @@ use Rattle.ldap_msg.specs.declared.kinds.Change.{Change}
 use Rattle.ldap_msg.specs.declared.kinds.RenameRequest.{RenameRequest}
 use Rattle.ldap_msg.specs.declared.kinds.Request.{Request}
 use Rattle.ldap_msg.specs.declared.kinds.Request.TheVariants as request
+use Rattle.ldap_msg.specs.declared.kinds.Update.TheVariants as update
 use Rattle.ldif_records.specs.declared.types.RecordLine.{RecordLine}
 use Rattle.ldif_records.specs.declared.types.LineCause.TheVariants.{Syntax}
 use Rattle.ldif_records.specs.reading.Faults.{LineFault, Bad}
@@ -149,16 +150,16 @@ rename_in name number (first ∷ second ∷ rest) = rename_by name first second 
 
 -- the add, the delete, the modify and the modify DN of the entry of a name that lines say
 abbrev pub add_in : List ℕ → List Line → Result Request LineFault
-add_in name rest = attributes_in None rest >>= λ attributes. Ok (request.Add (record { name = name; attributes = attributes }))
+add_in name rest = attributes_in None rest >>= λ attributes. Ok (request.Update (update.Add (record { name = name; attributes = attributes })))
 
 abbrev pub delete_in : List ℕ → List Line → Result Request LineFault
-delete_in name rest = nothing_in rest >>= λ nothing. Ok (request.Delete (record { name = name }))
+delete_in name rest = nothing_in rest >>= λ nothing. Ok (request.Update (update.Delete (record { name = name })))
 
 abbrev pub modify_in : List ℕ → ℕ → List Line → Result Request LineFault
-modify_in name number rest = changes_in number None rest >>= λ changes. Ok (request.Modify (record { name = name; changes = changes }))
+modify_in name number rest = changes_in number None rest >>= λ changes. Ok (request.Update (update.Modify (record { name = name; changes = changes })))
 
 abbrev pub modify_dn_in : List ℕ → ℕ → List Line → Result Request LineFault
-modify_dn_in name number rest = rename_in name number rest >>= λ rename. Ok (request.Rename rename)
+modify_dn_in name number rest = rename_in name number rest >>= λ rename. Ok (request.Update (update.Rename rename))
 
 -- the change of the entry of a name, of the kind that the line of the number says, with the lines behind it
 abbrev pub change_of_kind : List ℕ → ℕ → List ℕ → List Line → Result Request LineFault

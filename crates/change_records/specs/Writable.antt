@@ -10,6 +10,7 @@ use Rattle.ldap_msg.specs.declared.kinds.ModifyOperation.TheVariants.{Add, Delet
 use Rattle.ldap_msg.specs.declared.kinds.Change.{Change}
 use Rattle.ldap_msg.specs.declared.kinds.Request.{Request}
 use Rattle.ldap_msg.specs.declared.kinds.Request.TheVariants as request
+use Rattle.ldap_msg.specs.declared.kinds.Update.TheVariants as update
 use Rattle.ldif_records.specs.Fields.{is_kind, is_changetype}
 
 -- a type that has its form, with values of octets
@@ -51,11 +52,11 @@ abbrev pub IsWritable : Request → Type 0
 IsWritable (request.Bind bind) = ⊥
 IsWritable request.Unbind = ⊥
 IsWritable (request.Search search) = ⊥
-IsWritable (request.Modify modify) = IsBytes modify.name × AllByRecursion IsWritableChange modify.changes
-IsWritable (request.Add add) =
+IsWritable (request.Update (update.Modify modify)) = IsBytes modify.name × AllByRecursion IsWritableChange modify.changes
+IsWritable (request.Update (update.Add add)) =
     IsBytes add.name × AllByRecursion IsWritableGiven add.attributes × AreApart add.attributes
-IsWritable (request.Delete delete) = IsBytes delete.name
-IsWritable (request.Rename rename) = IsBytes rename.name × IsBytes rename.new_rdn × AreBytes rename.superior
+IsWritable (request.Update (update.Delete delete)) = IsBytes delete.name
+IsWritable (request.Update (update.Rename rename)) = IsBytes rename.name × IsBytes rename.new_rdn × AreBytes rename.superior
 IsWritable (request.Compare compare) = ⊥
 IsWritable (request.Abandon id) = ⊥
 IsWritable (request.Extended name value) = ⊥

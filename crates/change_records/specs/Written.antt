@@ -8,6 +8,7 @@ use Rattle.ldap_msg.specs.declared.kinds.ModifyOperation.TheVariants.{Add, Delet
 use Rattle.ldap_msg.specs.declared.kinds.Change.{Change}
 use Rattle.ldap_msg.specs.declared.kinds.Request.{Request}
 use Rattle.ldap_msg.specs.declared.kinds.Request.TheVariants as request
+use Rattle.ldap_msg.specs.declared.kinds.Update.TheVariants as update
 use Rattle.ldif_records.specs.writing.Written.{written_value}
 
 -- a line of a type and a value, which stands as it is or in base64
@@ -52,10 +53,10 @@ abbrev pub lines_of : Request → List (List ℕ)
 lines_of (request.Bind bind) = []
 lines_of request.Unbind = []
 lines_of (request.Search search) = []
-lines_of (request.Modify modify) = record_rows modify.name (codes "modify") (flat_map change_rows modify.changes)
-lines_of (request.Add add) = record_rows add.name (codes "add") (flat_map value_rows add.attributes)
-lines_of (request.Delete delete) = record_rows delete.name (codes "delete") []
-lines_of (request.Rename rename) =
+lines_of (request.Update (update.Modify modify)) = record_rows modify.name (codes "modify") (flat_map change_rows modify.changes)
+lines_of (request.Update (update.Add add)) = record_rows add.name (codes "add") (flat_map value_rows add.attributes)
+lines_of (request.Update (update.Delete delete)) = record_rows delete.name (codes "delete") []
+lines_of (request.Update (update.Rename rename)) =
     record_rows rename.name (codes "modrdn") (rename_rows rename.new_rdn rename.delete_old rename.superior)
 lines_of (request.Compare compare) = []
 lines_of (request.Abandon id) = []

@@ -10,7 +10,7 @@ use crate::lines::{misplaced, nothing_in, value_line};
 use crate::modifies::changes_in;
 use crate::renames::rename_in;
 use ldap_msg::plain_values::Octets;
-use ldap_msg::{AddRequest, DeleteRequest, ModifyRequest, Request};
+use ldap_msg::{AddRequest, DeleteRequest, ModifyRequest, Request, Update};
 use ldif_records::{BadLine, Unfolded, name_line};
 use std::alloc::Global;
 
@@ -19,7 +19,7 @@ fn add_in(alloc: Global, name: Octets, lines: &[Unfolded<'_>]) -> Result<Request
     ensures { Answers (λ change. change) fault_of result (add_in name lines.now) }
 {
     match attributes_in(alloc, lines) {
-        Ok(attributes) => Ok(Request::Add(AddRequest { name, attributes })),
+        Ok(attributes) => Ok(Request::Update(Update::Add(AddRequest { name, attributes }))),
         Err(bad) => Err(bad),
     }
 }
@@ -29,7 +29,7 @@ fn delete_in(name: Octets, lines: &[Unfolded<'_>]) -> Result<Request, BadLine>
     ensures { Answers (λ change. change) fault_of result (delete_in name lines.now) }
 {
     match nothing_in(lines) {
-        Ok(_) => Ok(Request::Delete(DeleteRequest { name })),
+        Ok(_) => Ok(Request::Update(Update::Delete(DeleteRequest { name }))),
         Err(bad) => Err(bad),
     }
 }
@@ -44,7 +44,7 @@ fn modify_in(
     ensures { Answers (λ change. change) fault_of result (modify_in name number lines.now) }
 {
     match changes_in(alloc, number, lines) {
-        Ok(changes) => Ok(Request::Modify(ModifyRequest { name, changes })),
+        Ok(changes) => Ok(Request::Update(Update::Modify(ModifyRequest { name, changes }))),
         Err(bad) => Err(bad),
     }
 }
@@ -59,7 +59,7 @@ fn modify_dn_in(
     ensures { Answers (λ change. change) fault_of result (modify_dn_in name number lines.now) }
 {
     match rename_in(alloc, name, number, lines) {
-        Ok(rename) => Ok(Request::Rename(rename)),
+        Ok(rename) => Ok(Request::Update(Update::Rename(rename))),
         Err(bad) => Err(bad),
     }
 }

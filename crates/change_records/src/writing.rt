@@ -9,7 +9,7 @@ use crate::types::NoMemory;
 use ldap_msg::plain_values::Octets;
 use ldap_msg::{
     AddRequest, Change, DeleteRequest, KindValues, ModifyOperation, ModifyRequest, RenameRequest,
-    Request,
+    Request, Update,
 };
 use ldif_records::put_line;
 
@@ -115,7 +115,7 @@ fn put_front(out: &mut Vec<u8>, name: &Octets, word: &[u8]) -> Result<(), NoMemo
 // Writes the record of a modify.
 fn put_modify(out: &mut Vec<u8>, modify: &ModifyRequest) -> Result<(), NoMemory>
     ensures { OnOk result
-        (out.new.items ≡ out.old.items ++ text_of (lines_of (Request.Modify modify.now))) }
+        (out.new.items ≡ out.old.items ++ text_of (lines_of (Request.Update (Update.Modify modify.now)))) }
 {
     put_front(out, &modify.name, b"modify")?;
     put_changes(out, modify.changes.as_slice())?;
@@ -125,7 +125,7 @@ fn put_modify(out: &mut Vec<u8>, modify: &ModifyRequest) -> Result<(), NoMemory>
 // Writes the record of an add.
 fn put_add(out: &mut Vec<u8>, add: &AddRequest) -> Result<(), NoMemory>
     ensures { OnOk result
-        (out.new.items ≡ out.old.items ++ text_of (lines_of (Request.Add add.now))) }
+        (out.new.items ≡ out.old.items ++ text_of (lines_of (Request.Update (Update.Add add.now)))) }
 {
     put_front(out, &add.name, b"add")?;
     put_attributes(out, add.attributes.as_slice())?;
@@ -135,7 +135,7 @@ fn put_add(out: &mut Vec<u8>, add: &AddRequest) -> Result<(), NoMemory>
 // Writes the record of a delete.
 fn put_delete(out: &mut Vec<u8>, delete: &DeleteRequest) -> Result<(), NoMemory>
     ensures { OnOk result
-        (out.new.items ≡ out.old.items ++ text_of (lines_of (Request.Delete delete.now))) }
+        (out.new.items ≡ out.old.items ++ text_of (lines_of (Request.Update (Update.Delete delete.now)))) }
 {
     put_front(out, &delete.name, b"delete")?;
     out.extend_from_slice(b"\n")
@@ -144,7 +144,7 @@ fn put_delete(out: &mut Vec<u8>, delete: &DeleteRequest) -> Result<(), NoMemory>
 // Writes the record of a modify DN.
 fn put_modify_dn(out: &mut Vec<u8>, rename: &RenameRequest) -> Result<(), NoMemory>
     ensures { OnOk result
-        (out.new.items ≡ out.old.items ++ text_of (lines_of (Request.Rename rename.now))) }
+        (out.new.items ≡ out.old.items ++ text_of (lines_of (Request.Update (Update.Rename rename.now)))) }
 {
     put_front(out, &rename.name, b"modrdn")?;
     put_rename(out, rename)?;
@@ -157,10 +157,10 @@ fn put_request(out: &mut Vec<u8>, request: &Request) -> Result<(), NoMemory>
     ensures { OnOk result (out.new.items ≡ out.old.items ++ record_text request.now) }
 {
     match request {
-        Request::Modify(modify) => put_modify(out, modify),
-        Request::Add(add) => put_add(out, add),
-        Request::Delete(delete) => put_delete(out, delete),
-        Request::Rename(rename) => put_modify_dn(out, rename),
+        Request::Update(Update::Modify(modify)) => put_modify(out, modify),
+        Request::Update(Update::Add(add)) => put_add(out, add),
+        Request::Update(Update::Delete(delete)) => put_delete(out, delete),
+        Request::Update(Update::Rename(rename)) => put_modify_dn(out, rename),
         _ => Ok(()),
     }
 }

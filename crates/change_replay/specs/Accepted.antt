@@ -10,19 +10,20 @@ use Rattle.change_laws.specs.op_modify.Renames.{renamed}
 use Rattle.change_laws.specs.op_modify.ldap_msg.declared.operations.ResultCode.TheVariants as code
 use Rattle.change_laws.specs.op_modify.ldap_msg.declared.kinds.Request.{Request}
 use Rattle.change_laws.specs.op_modify.ldap_msg.declared.kinds.Request.TheVariants as request
+use Rattle.change_laws.specs.op_modify.ldap_msg.declared.kinds.Update.{Update}
+use Rattle.change_laws.specs.op_modify.ldap_msg.declared.kinds.Update.TheVariants as update
+
+-- what a change comes to for a requester
+abbrev pub updated : List EntryInformation → Requester → Update → Changed
+updated entries who (update.Modify modify) = modified entries who modify
+updated entries who (update.Add add) = added entries who add
+updated entries who (update.Delete delete) = deleted entries who delete
+updated entries who (update.Rename rename) = renamed entries who rename
 
 -- what a request comes to for a requester; one that changes nothing is none that may be accepted
 abbrev pub outcome : List EntryInformation → Requester → Request → Changed
-outcome entries who (request.Bind bind) = Refused (result_of code.ProtocolError)
-outcome entries who request.Unbind = Refused (result_of code.ProtocolError)
-outcome entries who (request.Search search) = Refused (result_of code.ProtocolError)
-outcome entries who (request.Modify modify) = modified entries who modify
-outcome entries who (request.Add add) = added entries who add
-outcome entries who (request.Delete delete) = deleted entries who delete
-outcome entries who (request.Rename rename) = renamed entries who rename
-outcome entries who (request.Compare compare) = Refused (result_of code.ProtocolError)
-outcome entries who (request.Abandon id) = Refused (result_of code.ProtocolError)
-outcome entries who (request.Extended name value) = Refused (result_of code.ProtocolError)
+outcome entries who (request.Update change) = updated entries who change
+outcome entries who other = Refused (result_of code.ProtocolError)
 
 -- a request, and who asked
 pub record AcceptedChange : Type 0 where

@@ -13,6 +13,8 @@ use Rattle.change_laws.specs.op_modify.ldap_msg.declared.kinds.KindValues.{KindV
 use Rattle.change_laws.specs.op_modify.ldap_msg.declared.kinds.Change.{Change}
 use Rattle.change_laws.specs.op_modify.ldap_msg.declared.kinds.Request.{Request}
 use Rattle.change_laws.specs.op_modify.ldap_msg.declared.kinds.Request.TheVariants as request
+use Rattle.change_laws.specs.op_modify.ldap_msg.declared.kinds.Update.{Update}
+use Rattle.change_laws.specs.op_modify.ldap_msg.declared.kinds.Update.TheVariants as update
 use Rattle.change_replay.specs.Replayed.{replayed}
 use Rattle.change_replay.specs.Accepted.{AcceptedChange, IsAccepted, AreAccepted, requests_of, left_after}
 
@@ -24,18 +26,17 @@ HasOctets given = AllByRecursion IsBytes given.values
 abbrev pub ChangesOctets : Change → Type 0
 ChangesOctets change = HasOctets change.body
 
--- the names and values of a request that changes something are octets
+-- the names and values of a change are octets
+abbrev pub UpdatesOctets : Update → Type 0
+UpdatesOctets (update.Modify modify) = IsBytes modify.name × AllByRecursion ChangesOctets modify.changes
+UpdatesOctets (update.Add add) = IsBytes add.name × AllByRecursion HasOctets add.attributes
+UpdatesOctets (update.Delete delete) = IsBytes delete.name
+UpdatesOctets (update.Rename rename) = IsBytes rename.name × IsBytes rename.new_rdn × AreBytes rename.superior
+
+-- those of a request that changes something are
 abbrev pub IsOfOctets : Request → Type 0
-IsOfOctets (request.Bind bind) = Unit {0}
-IsOfOctets request.Unbind = Unit {0}
-IsOfOctets (request.Search search) = Unit {0}
-IsOfOctets (request.Modify modify) = IsBytes modify.name × AllByRecursion ChangesOctets modify.changes
-IsOfOctets (request.Add add) = IsBytes add.name × AllByRecursion HasOctets add.attributes
-IsOfOctets (request.Delete delete) = IsBytes delete.name
-IsOfOctets (request.Rename rename) = IsBytes rename.name × IsBytes rename.new_rdn × AreBytes rename.superior
-IsOfOctets (request.Compare compare) = Unit {0}
-IsOfOctets (request.Abandon id) = Unit {0}
-IsOfOctets (request.Extended name value) = Unit {0}
+IsOfOctets (request.Update change) = UpdatesOctets change
+IsOfOctets other = Unit {0}
 
 -- those of each of the changes are
 abbrev pub AreOfOctets : List AcceptedChange → Type 0

@@ -2,18 +2,19 @@
 use Rattle.std.specs.Prelude.{ℕ, List, [], ◌∷◌, Option, Some, None, Result, Ok, Err}
 use Rattle.dir_tree.specs.plain_values.Results.{◌>>=◌}
 use Rattle.dir_tree.specs.Entry.{EntryInformation}
+use Rattle.change_laws.specs.op_modify.ldap_msg.declared.operations.ResultCode.{ResultCode}
 use Rattle.change_records.specs.declared.types.RecordedChange.{RecordedChange}
 use Rattle.change_replay.specs.declared.fault.ReplayFault.{ReplayFault}
 use Rattle.change_replay.specs.declared.fault.ReplayFault.TheVariants as fault
 use Rattle.change_replay.specs.Applied.{applied}
 
--- a change that can't be applied: the number of the first line of its record, and of the result code that refuses it
+-- a change that can't be applied: the number of the first line of its record, and the result code that refuses it
 pub record RefusedChange : Type 0 where
   pub line : ℕ
-  pub code : ℕ
+  pub code : ResultCode
 
 -- what a change leaves, or that the one of this line is refused
-abbrev pub at_line : ℕ → Result (List EntryInformation) ℕ → Result (List EntryInformation) RefusedChange
+abbrev pub at_line : ℕ → Result (List EntryInformation) ResultCode → Result (List EntryInformation) RefusedChange
 at_line line (Ok entries) = Ok entries
 at_line line (Err code) = Err (record { line = line; code = code })
 

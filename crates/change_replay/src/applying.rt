@@ -3,35 +3,46 @@
 ghost use Rattle.std.specs.Prelude.{◌≡◌, IfOk};
 ghost use Rattle.dir_tree.specs.plain_values.Answers.{Answers};
 ghost use Rattle.dir_tree.specs.tree.Numbered.{entries_of};
-ghost use Rattle.change_replay.specs.Applied.{applied};
-ghost use Rattle.change_replay.specs.Steps.{cause_of, HasName, Leads};
+ghost use Rattle.op_add_delete.specs.reading.Reading.{cause_of};
+ghost use Rattle.change_replay.specs.Applied.{applied, applied_update};
+ghost use Rattle.change_replay.specs.Steps.{HasName, Leads};
 
 use crate::adds::check_add;
 use crate::deletes::check_delete;
-use crate::fault::{Fault, refusal};
 use crate::making::{Step, make};
 use crate::modifies::check_modify;
 use crate::renames::check_rename;
-use change_records::ldap_msg::{Request, ResultCode};
+use change_records::ldap_msg::{Request, ResultCode, Update};
 use dir_tree::Tree;
+use op_add_delete::Fault;
 use std::alloc::Global;
+
+// What the change does.
+fn check_update(alloc: Global, tree: &Tree, change: &Update) -> Result<Step, Fault>
+    ensures exact { Leads tree.now result (applied_update (entries_of tree.now) change.now) }
+    ensures named { IfOk result HasName }
+{
+    match change {
+        Update::Modify(modify) => check_modify(alloc, tree, modify),
+        Update::Add(add) => check_add(alloc, tree, add),
+        Update::Delete(delete) => check_delete(alloc, tree, delete),
+        Update::Rename(rename) => check_rename(alloc, tree, rename),
+    }
+}
 
 // What the request does.
 fn check(alloc: Global, tree: &Tree, request: &Request) -> Result<Step, Fault>
     ensures exact { Leads tree.now result (applied (entries_of tree.now) request.now) }
-    ensures named { IfOk result HasName }
+    ensures named { IfOk result (HasName tree.now) }
 {
     match request {
-        Request::Modify(modify) => check_modify(alloc, tree, modify),
-        Request::Add(add) => check_add(alloc, tree, add),
-        Request::Delete(delete) => check_delete(alloc, tree, delete),
-        Request::Rename(rename) => check_rename(alloc, tree, rename),
+        Request::Update(change) => check_update(alloc, tree, change),
         Request::Bind(_)
         | Request::Unbind
         | Request::Search(_)
         | Request::Compare(_)
         | Request::Abandon(_)
-        | Request::Extended(_, _) => Err(refusal(ResultCode::ProtocolError)),
+        | Request::Extended(_, _) => Err(Fault::Refused(ResultCode::ProtocolError)),
     }
 }
 

@@ -11,6 +11,7 @@ ghost use Rattle.change_laws.specs.op_modify.ldap_msg.declared.kinds.DeleteReque
 ghost use Rattle.change_laws.specs.op_modify.ldap_msg.declared.kinds.ModifyRequest.{ModifyRequest};
 ghost use Rattle.change_laws.specs.op_modify.ldap_msg.declared.kinds.RenameRequest.{RenameRequest};
 ghost use Rattle.change_laws.specs.op_modify.ldap_msg.declared.kinds.Request.TheVariants as request_of;
+ghost use Rattle.change_laws.specs.op_modify.ldap_msg.declared.kinds.Update.TheVariants as update;
 ghost use Rattle.change_replay.specs.Applied.{applied};
 ghost use Rattle.change_replay.specs.Laws.{StaysGood, CanBeWritten, RecoversWhereCut};
 
@@ -23,16 +24,16 @@ use op_add_delete::schema_rules::laws::a_tree_stays_good_in_place;
 pub fn what_was_accepted_is_applied()
     ensures deleted { (entries : List EntryInformation) (who : Requester) (request : DeleteRequest)
         (after : List EntryInformation) → deleted entries who request ≡ Made after
-        → applied entries (request_of.Delete request) ≡ Ok after }
+        → applied entries (request_of.Update (update.Delete request)) ≡ Ok after }
     ensures added { (entries : List EntryInformation) (who : Requester) (request : AddRequest)
         (after : List EntryInformation) → added entries who request ≡ Made after
-        → applied entries (request_of.Add request) ≡ Ok after }
+        → applied entries (request_of.Update (update.Add request)) ≡ Ok after }
     ensures modified { (entries : List EntryInformation) (who : Requester) (request : ModifyRequest)
         (after : List EntryInformation) → modified entries who request ≡ Made after
-        → applied entries (request_of.Modify request) ≡ Ok after }
+        → applied entries (request_of.Update (update.Modify request)) ≡ Ok after }
     ensures renamed { (entries : List EntryInformation) (who : Requester) (request : RenameRequest)
         (after : List EntryInformation) → renamed entries who request ≡ Made after
-        → applied entries (request_of.Rename request) ≡ Ok after }
+        → applied entries (request_of.Update (update.Rename request)) ≡ Ok after }
 {
     exactly_what_may_be_done_is_done();
     exactly_what_may_be_changed_is_changed();

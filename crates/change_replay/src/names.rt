@@ -4,13 +4,13 @@ ghost use Rattle.std.specs.Prelude.{◌≡◌, ◌≢◌, [], Ok, IfOk};
 ghost use Rattle.dir_tree.specs.plain_values.Answers.{Answers};
 ghost use Rattle.dir_tree.specs.tree.Trees.{named_in};
 ghost use Rattle.dir_tree.specs.tree.Numbered.{entry_of, entries_of};
+ghost use Rattle.op_add_delete.specs.reading.Reading.{cause_of};
 ghost use Rattle.change_replay.specs.Applied.{named, name_in, target_by, taken_refusal};
-ghost use Rattle.change_replay.specs.Steps.{cause_of};
 
-use crate::fault::{Fault, refusal};
 use change_records::ldap_msg::ResultCode;
 use dir_tree::Tree;
 use dir_tree::dn_names::Dn;
+use op_add_delete::Fault;
 use op_add_delete::directory::{NumberedEntry, find_entry, read_named};
 use std::alloc::Global;
 
@@ -20,7 +20,7 @@ fn filled(name: Dn) -> Result<Dn, Fault>
     ensures filled { IfOk result (λ name. name ≢ []) }
 {
     if name.len() == 0 {
-        return Err(refusal(ResultCode::UnwillingToPerform));
+        return Err(Fault::Refused(ResultCode::UnwillingToPerform));
     }
     Ok(name)
 }
@@ -32,7 +32,7 @@ pub(crate) fn name_in(alloc: Global, octets: &[u8]) -> Result<Dn, Fault>
 {
     match read_named(alloc, octets)? {
         Some(name) => filled(name),
-        None => Err(refusal(ResultCode::InvalidDnSyntax)),
+        None => Err(Fault::Refused(ResultCode::InvalidDnSyntax)),
     }
 }
 
@@ -44,6 +44,6 @@ pub(crate) fn target_in<'a>(tree: &'a Tree, name: &Dn) -> Result<NumberedEntry<'
 {
     match find_entry(tree, name) {
         Some(target) => Ok(target),
-        None => Err(refusal(ResultCode::NoSuchObject)),
+        None => Err(Fault::Refused(ResultCode::NoSuchObject)),
     }
 }

@@ -9,10 +9,10 @@ ghost use Rattle.dir_tree.specs.tree.Numbered.{entry_of, entries_of};
 ghost use Rattle.entry_changes.specs.Renaming.{renamed_entry};
 ghost use Rattle.change_laws.specs.op_modify.ReadRenames.{above, read_renaming};
 ghost use Rattle.change_laws.specs.op_modify.Renames.{new_name, is_unmovable, other_named};
+ghost use Rattle.op_add_delete.specs.reading.Reading.{cause_of};
 ghost use Rattle.change_replay.specs.Applied.{taken_refusal, become, coming_rows, with_moved, with_renamed, with_renamed_named, renaming_by, applied_rename};
-ghost use Rattle.change_replay.specs.Steps.{cause_of, HasName, Leads};
+ghost use Rattle.change_replay.specs.Steps.{HasName, Leads};
 
-use crate::fault::{Fault, refusal};
 use crate::making::Step;
 use crate::names::target_in;
 use crate::rules::{broken_in_place, taken_refusal};
@@ -21,6 +21,7 @@ use change_records::ldap_msg::{RenameRequest, ResultCode};
 use dir_tree::dn_names::{Dn, compare_front, join, same};
 use dir_tree::{Entry, NoMemory, Tree};
 use entry_changes::rename_entry;
+use op_add_delete::Fault;
 use op_add_delete::directory::{NumberedEntry, is_suffix};
 use std::alloc::{AllocError, Global};
 
@@ -82,19 +83,19 @@ fn become_renamed(
         (become (entries_of tree.now) renaming.now target.entry.entry.now) }
 {
     if is_unmovable(tree, renaming, target) {
-        return Err(refusal(ResultCode::UnwillingToPerform));
+        return Err(Fault::Refused(ResultCode::UnwillingToPerform));
     }
     if tree.has_below(target.number) {
-        return Err(refusal(ResultCode::NotAllowedOnNonLeaf));
+        return Err(Fault::Refused(ResultCode::NotAllowedOnNonLeaf));
     }
     match find_above(tree, renaming) {
         Some(superior) => Ok(moved(alloc, superior, renaming, target.entry)?),
-        None => Err(refusal(ResultCode::NoSuchObject)),
+        None => Err(Fault::Refused(ResultCode::NoSuchObject)),
     }
 }
 
-// The number of the refusal where an entry other than the target has the name.
-fn other_refusal(tree: &Tree, target: NumberedEntry<'_>, name: &Dn) -> Option<u8>
+// The refusal where an entry other than the target has the name.
+fn other_refusal(tree: &Tree, target: NumberedEntry<'_>, name: &Dn) -> Option<ResultCode>
     ensures exact { result ≡ taken_refusal (other_named (entries_of tree.now) target.entry.entry.now name.now) }
 {
     if same(name, target.entry.name()) {
@@ -103,13 +104,13 @@ fn other_refusal(tree: &Tree, target: NumberedEntry<'_>, name: &Dn) -> Option<u8
     taken_refusal(tree, name)
 }
 
-// The number of the first refusal that the renamed entry decides. The error comes where memory is wanted.
+// The first refusal that the renamed entry decides. The error comes where memory is wanted.
 fn coming_refusal(
     alloc: Global,
     tree: &Tree,
     target: NumberedEntry<'_>,
     entry: &Entry,
-) -> Result<Option<u8>, NoMemory>
+) -> Result<Option<ResultCode>, NoMemory>
     requires found { entry_of target.number.0 tree.now ≡ Some target.entry.now }
     ensures ok { IfOk result (λ refusal. refusal
         ≡ first_some (coming_rows (entries_of tree.now) target.entry.entry.now entry.now)) }
@@ -129,7 +130,7 @@ fn check_moved(
 ) -> Result<Step, Fault>
     requires found { entry_of target.number.0 tree.now ≡ Some target.entry.now }
     ensures exact { Leads tree.now result (with_moved (entries_of tree.now) target.entry.entry.now entry) }
-    ensures named { IfOk result HasName }
+    ensures named { IfOk result (HasName tree.now) }
 {
     match coming_refusal(alloc, tree, target, &entry)? {
         Some(code) => Err(Fault::Refused(code)),
@@ -147,7 +148,7 @@ fn check_target(
     requires found { entry_of target.number.0 tree.now ≡ Some target.entry.now }
     ensures exact { Leads tree.now result
         (with_renamed (entries_of tree.now) renaming.now target.entry.entry.now) }
-    ensures named { IfOk result HasName }
+    ensures named { IfOk result (HasName tree.now) }
 {
     match become_renamed(alloc, tree, renaming, target) {
         Ok(entry) => check_moved(alloc, tree, target, entry),
@@ -158,7 +159,7 @@ fn check_target(
 // The same of the entry that has the name.
 fn check_named(alloc: Global, tree: &Tree, renaming: &Renaming) -> Result<Step, Fault>
     ensures exact { Leads tree.now result (with_renamed_named (entries_of tree.now) renaming.now) }
-    ensures named { IfOk result HasName }
+    ensures named { IfOk result (HasName tree.now) }
 {
     match target_in(tree, &renaming.name) {
         Ok(target) => check_target(alloc, tree, renaming, target),
@@ -171,10 +172,10 @@ fn renaming_by(alloc: Global, request: &RenameRequest) -> Result<Renaming, Fault
     ensures exact { Answers (λ renaming. renaming) cause_of result (renaming_by (read_renaming request.now)) }
 {
     let Some(renaming) = read_renaming(alloc, request)? else {
-        return Err(refusal(ResultCode::InvalidDnSyntax));
+        return Err(Fault::Refused(ResultCode::InvalidDnSyntax));
     };
     if renaming.name.len() == 0 {
-        return Err(refusal(ResultCode::UnwillingToPerform));
+        return Err(Fault::Refused(ResultCode::UnwillingToPerform));
     }
     Ok(renaming)
 }
@@ -187,7 +188,7 @@ pub(crate) fn check_rename(
     request: &RenameRequest,
 ) -> Result<Step, Fault>
     ensures exact { Leads tree.now result (applied_rename (entries_of tree.now) request.now) }
-    ensures named { IfOk result HasName }
+    ensures named { IfOk result (HasName tree.now) }
 {
     match renaming_by(alloc, request) {
         Ok(renaming) => check_named(alloc, tree, &renaming),

@@ -7,9 +7,10 @@ ghost use Rattle.change_replay.specs.Applied.{applied};
 ghost use Rattle.change_replay.specs.Replayed.{at_line, replayed, refused_by};
 
 use crate::applying::apply;
-use crate::fault::{Fault, ReplayFault};
+use crate::fault::ReplayFault;
 use change_records::RecordedChange;
 use dir_tree::Tree;
+use op_add_delete::Fault;
 use std::alloc::Global;
 
 // Makes one of the changes.
@@ -34,9 +35,9 @@ fn apply_recorded(
 /// the name, the free name of a new one, an entry without others below it, the values that a modify names, and the rules of
 /// entries.
 ///
-/// `Refused` tells the first change that lacks one of these, by the line where its record begins and the number of the
-/// result code that the operation would have answered; a request that changes nothing has protocolError's.
-/// `NoMemory` may come in place of any answer. After an error the tree is to be dropped: some of the changes are made then,
+/// `Refused` tells the first change that lacks one of these, by the line where its record begins and the result code that
+/// the operation would have answered; that of a request that changes nothing is protocolError. `NoMemory` may come in place
+/// of any answer. After an error the tree is to be dropped: some of the changes are made then,
 /// and no clause says which.
 pub fn apply_changes(
     alloc: Global,

@@ -1,6 +1,8 @@
 -- The definitions, computed on known cases.
 use Rattle.std.proofs.Common.{◌≡◌, codes, refl}
 use Rattle.std.specs.Fmt.{digits}
+use Rattle.change_replay.specs.aci_item.declared.entry_rule.EntryRule.TheVariants.{Classes}
+use Rattle.client_core.specs.ldap_msg.declared.operations.ResultCode.TheVariants as code
 use Rattle.data_file.specs.declared.fault.DataCause.TheVariants.{Line, Record}
 use Rattle.data_file.specs.ldif_load.declared.fault.LoadCause.TheVariants.{Rule}
 use Rattle.data_file.specs.ldif_records.declared.types.LineCause.TheVariants.{Changetype}
@@ -14,7 +16,7 @@ bad_form : trouble_text (BadData 12 (Line Changetype)) ≡ codes "bad data line 
 unfolding digits
 bad_form = refl
 
-bad_record : trouble_text (BadData 7 (Record (Rule 65))) ≡ codes "bad data line 7: rule 65\n"
+bad_record : trouble_text (BadData 7 (Record (Rule Classes))) ≡ codes "bad data line 7: rule 65\n"
 unfolding digits
 bad_record = refl
 
@@ -32,6 +34,6 @@ other_data : trouble_text (BadChanges 2 changes.Digest) ≡ codes "bad changes l
 unfolding digits
 other_data = refl
 
-refused_change : trouble_text (BadChanges 4 (changes.Code 68)) ≡ codes "bad changes line 4: code 68\n"
+refused_change : trouble_text (BadChanges 4 (changes.Code code.EntryAlreadyExists)) ≡ codes "bad changes line 4: code 68\n"
 unfolding digits
 refused_change = refl

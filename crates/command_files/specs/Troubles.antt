@@ -1,5 +1,7 @@
 -- The line that says why a file wasn't read.
 use Rattle.std.specs.Prelude.{ℕ, List, [], ◌++◌, codes, decimal}
+use Rattle.change_replay.specs.aci_item.EntryRule.{rule_number}
+use Rattle.client_core.specs.ldap_msg.operations.ResultCodes.{code_number}
 use Rattle.data_file.specs.Files.{cause_of}
 use Rattle.data_file.specs.ldif_load.declared.fault.LoadCause.{LoadCause}
 use Rattle.data_file.specs.ldif_load.declared.fault.LoadCause.TheVariants.{Name, Kind, Value, Twice, Order, Rule, Limit}
@@ -26,7 +28,7 @@ record_cause_text Kind = codes "type"
 record_cause_text Value = codes "value"
 record_cause_text Twice = codes "twice"
 record_cause_text Order = codes "order"
-record_cause_text (Rule code) = codes "rule " ++ decimal code
+record_cause_text (Rule rule) = codes "rule " ++ decimal (rule_number rule)
 record_cause_text Limit = codes "limit"
 
 -- what is wrong with a file
@@ -38,7 +40,7 @@ cause_text (OfRecord cause) = record_cause_text cause
 abbrev pub changes_cause_text : ChangesCause → List ℕ
 changes_cause_text (changes.Line cause) = line_cause_text cause
 changes_cause_text changes.Digest = codes "digest"
-changes_cause_text (changes.Code code) = codes "code " ++ decimal code
+changes_cause_text (changes.Code code) = codes "code " ++ decimal (code_number code)
 changes_cause_text changes.Limit = codes "limit"
 
 -- what a line of a file that isn't in its form is of

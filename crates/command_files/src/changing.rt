@@ -9,6 +9,7 @@ ghost use Rattle.change_replay.specs.Replayed.{replayed};
 ghost use Rattle.whole_blocks.specs.Blocks.{whole_part};
 ghost use Rattle.command_files.specs.loading.Changing.{changed, changed_by, changed_by_whole, changed_for, changes_of, fault_of, fault_of_line, fault_of_replay, head_of, is_torn_head, left_by, left_of, tied_to};
 
+use client_core::ldap_msg::ResultCode;
 use change_replay::change_records::{ChangeFile, NoMemory, RecordedChange, put_head, read_file};
 use change_replay::laws::a_good_tree_stays_good_when_replayed;
 use change_replay::{ReplayFault, apply_changes};
@@ -19,21 +20,21 @@ use std::alloc::Global;
 use whole_blocks::whole_length;
 
 /// Why a file of changes isn't accepted.
-#[derive(Clone, Copy, Debug, PartialEq)]
+#[derive(Clone, Copy, Debug)]
 pub enum ChangesCause {
     /// A line is bad: it is of no form that may stand there, or its record lacks a line; `changetype` is the type of an
     /// attribute; or a value isn't padded base64.
     Line(LineCause),
     /// The head has the digest of another data file.
     Digest,
-    /// The change can't be applied: the number of the LDAP result code (RFC 4511 appendix A), or of the broken rule.
-    Code(u8),
+    /// The change can't be applied: the result code that refuses it (RFC 4511 appendix A).
+    Code(ResultCode),
     /// The file is too long.
     Limit,
 }
 
 /// Why the changes of a file weren't applied.
-#[derive(Clone, Copy, Debug, PartialEq)]
+#[derive(Clone, Copy, Debug)]
 pub enum ChangesFault {
     /// The first line at which the file isn't accepted, and why: the bad line, that of the digest, or the first line of the
     /// record of the change that can't be applied.

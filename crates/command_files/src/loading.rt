@@ -36,7 +36,7 @@ pub enum SecondFile {
 }
 
 /// Why a file wasn't read.
-#[derive(Clone, Copy, Debug, PartialEq)]
+#[derive(Clone, Copy, Debug)]
 pub enum Trouble {
     /// The shelf has no such file, or could not read it.
     NoFile,

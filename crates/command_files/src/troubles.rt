@@ -82,7 +82,7 @@ fn record_cause_text(alloc: Global, cause: LoadCause) -> Result<String, AllocErr
         LoadCause::Value => String::from_str(alloc, "value"),
         LoadCause::Twice => String::from_str(alloc, "twice"),
         LoadCause::Order => String::from_str(alloc, "order"),
-        LoadCause::Rule(code) => format!(in alloc; "rule {code}"),
+        LoadCause::Rule(rule) => format!(in alloc; "rule {}", rule.number()),
         LoadCause::Limit => String::from_str(alloc, "limit"),
     }
 }
@@ -117,7 +117,7 @@ fn changes_cause_text(alloc: Global, cause: ChangesCause) -> Result<String, Allo
     match cause {
         ChangesCause::Line(cause) => String::from_str(alloc, line_cause_text(cause)),
         ChangesCause::Digest => String::from_str(alloc, "digest"),
-        ChangesCause::Code(code) => format!(in alloc; "code {code}"),
+        ChangesCause::Code(code) => format!(in alloc; "code {}", code.number()),
         ChangesCause::Limit => String::from_str(alloc, "limit"),
     }
 }

@@ -3,6 +3,7 @@
 use data_file::{DataCause, DataFault, load, put_tree};
 use ldif_load::LoadCause;
 use ldif_load::ldif_records::LineCause;
+use ldif_load::schema_rules::EntryRule;
 use std::alloc::Global;
 use std::test::Fail;
 use wire_io::{MemSink, PutFault};
@@ -62,7 +63,7 @@ static BAD: [(&str, u64, DataCause); 5] = [
     (
         "\ndn: dc=t\ndc: t\n",
         2,
-        DataCause::Record(LoadCause::Rule(65)),
+        DataCause::Record(LoadCause::Rule(EntryRule::Classes)),
     ),
 ];
 
@@ -100,41 +101,41 @@ fn a_file_with_a_subentry_is_loaded_and_written(rt: HostRuntime) -> Result<(), F
 }
 
 // Files with a subentry that has no place or no subtree, and the line and the rule of each.
-static WRONG_SUBENTRIES: [(&str, u64, u8); 6] = [
+static WRONG_SUBENTRIES: [(&str, u64, EntryRule); 6] = [
     // its base names an attribute that there is not
     (
         "dn: dc=u\nobjectClass: domain\nadministrativeRole: autonomousArea\n\ndn: cn=s,dc=u\nobjectClass: subentry\ncn: s\nsubtreeSpecification: { base \"zz=b\" }\n",
         5,
-        21,
+        EntryRule::Syntaxes,
     ),
     (
         "dn: dc=u\nobjectClass: domain\nadministrativeRole: autonomousArea\n\ndn: cn=s,dc=u\nobjectClass: subentry\ncn: s\nsubtreeSpecification: { base \"ou=b\"\n",
         5,
-        21,
+        EntryRule::Syntaxes,
     ),
     // below no administrative point
     (
         "dn: dc=u\nobjectClass: domain\n\ndn: cn=s,dc=u\nobjectClass: subentry\ncn: s\nsubtreeSpecification: { }\n",
         4,
-        64,
+        EntryRule::Place,
     ),
     // two levels below the point
     (
         "dn: dc=u\nobjectClass: domain\nadministrativeRole: autonomousArea\n\ndn: ou=b,dc=u\nobjectClass: organizationalUnit\n\ndn: cn=s,ou=b,dc=u\nobjectClass: subentry\ncn: s\nsubtreeSpecification: { }\n",
         8,
-        64,
+        EntryRule::Place,
     ),
     // below a subentry
     (
         "dn: dc=u\nobjectClass: domain\nadministrativeRole: autonomousArea\n\ndn: cn=s,dc=u\nobjectClass: subentry\ncn: s\nsubtreeSpecification: { }\n\ndn: ou=b,cn=s,dc=u\nobjectClass: organizationalUnit\n",
         10,
-        64,
+        EntryRule::Place,
     ),
     // as the suffix
     (
         "dn: cn=s\nobjectClass: subentry\ncn: s\nsubtreeSpecification: { }\n",
         1,
-        64,
+        EntryRule::Place,
     ),
 ];
 

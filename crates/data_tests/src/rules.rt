@@ -2,15 +2,15 @@
 use dir_tree::dn_names::{make_value, parse};
 use dir_tree::schema_tables::attr;
 use dir_tree::{Entry, Tree};
-use ldif_load::schema_rules::{Broken, check_entry};
+use ldif_load::schema_rules::{Broken, EntryRule, check_entry};
 use std::alloc::Global;
 use std::process::Abort;
 use std::test::Fail;
 
 type Attributes = &'static [(&'static str, &'static str)];
 
-// A name, attributes, and the code of the rule that such an entry breaks, if it breaks one.
-type Row = (&'static str, Attributes, Option<u8>);
+// A name, attributes, and the rule that such an entry breaks, if it breaks one.
+type Row = (&'static str, Attributes, Option<EntryRule>);
 
 fn put(alloc: Global, entry: &mut Entry, kind: &str, octets: Vec<u8>) -> Result<(), Fail> {
     let kind = attr(kind).ok_or("no such type")?;
@@ -65,10 +65,10 @@ fn tree(alloc: Global) -> Result<Tree, Fail> {
     Ok(tree)
 }
 
-// What is answered of an entry that breaks the rule of the code, or none.
-fn answer(code: Option<u8>) -> Result<(), Broken> {
-    match code {
-        Some(code) => Err(Broken::Rule(code)),
+// What is answered of an entry that breaks the rule, or none.
+fn answer(rule: Option<EntryRule>) -> Result<(), Broken> {
+    match rule {
+        Some(rule) => Err(Broken::Rule(rule)),
         None => Ok(()),
     }
 }
@@ -105,7 +105,7 @@ static OWN_VALUES: [Row; 6] = [
     (
         "cn=ann,dc=example",
         &[("objectClass", "person"), ("cn", "Annie"), ("sn", "Ann")],
-        Some(67),
+        Some(EntryRule::RdnValues),
     ),
     // each value of an RDN of two, and no other RDN
     (
@@ -116,10 +116,10 @@ static OWN_VALUES: [Row; 6] = [
     (
         "cn=ann+sn=king,dc=example",
         &[("objectClass", "person"), ("cn", "Ann"), ("sn", "Lee")],
-        Some(67),
+        Some(EntryRule::RdnValues),
     ),
     // this rule comes before that of classes
-    ("cn=ann,dc=example", &[("cn", "Annie")], Some(67)),
+    ("cn=ann,dc=example", &[("cn", "Annie")], Some(EntryRule::RdnValues)),
 ];
 
 #[test]
@@ -129,7 +129,7 @@ fn a_value_of_the_own_rdn_is_among_the_attributes(rt: HostRuntime) -> Result<(),
 
 static CLASSES: [Row; 8] = [
     // no class, and one outside the table
-    ("cn=ann,dc=example", &[("cn", "Ann")], Some(65)),
+    ("cn=ann,dc=example", &[("cn", "Ann")], Some(EntryRule::Classes)),
     (
         "cn=ann,dc=example",
         &[
@@ -138,18 +138,18 @@ static CLASSES: [Row; 8] = [
             ("sn", "Lee"),
             ("objectClass", "1.3.6.1.4.1.32473.1"),
         ],
-        Some(65),
+        Some(EntryRule::Classes),
     ),
     // abstract and auxiliary classes alone (X.501 8.3.2)
     (
         "cn=ann,dc=example",
         &[("objectClass", "top"), ("cn", "Ann")],
-        Some(65),
+        Some(EntryRule::Classes),
     ),
     (
         "cn=ann,dc=example",
         &[("objectClass", "uidObject"), ("uid", "ann"), ("cn", "Ann")],
-        Some(65),
+        Some(EntryRule::Classes),
     ),
     // classes in one line, and in two
     (
@@ -171,7 +171,7 @@ static CLASSES: [Row; 8] = [
             ("sn", "Lee"),
             ("objectClass", "organizationalRole"),
         ],
-        Some(65),
+        Some(EntryRule::Classes),
     ),
     (
         "cn=ann,dc=example",
@@ -193,7 +193,7 @@ static CLASSES: [Row; 8] = [
             ("sn", "Lee"),
             ("objectClass", "accessControlSubentry"),
         ],
-        Some(65),
+        Some(EntryRule::Classes),
     ),
 ];
 
@@ -207,12 +207,12 @@ static CONTENTS: [Row; 10] = [
     (
         "cn=ann,dc=example",
         &[("objectClass", "person"), ("cn", "Ann")],
-        Some(65),
+        Some(EntryRule::Classes),
     ),
     (
         "cn=ann,dc=example",
         &[("objectClass", "inetOrgPerson"), ("cn", "Ann")],
-        Some(65),
+        Some(EntryRule::Classes),
     ),
     (
         "cn=ann,dc=example",
@@ -232,7 +232,7 @@ static CONTENTS: [Row; 10] = [
             ("sn", "Lee"),
             ("mail", "ann@example.org"),
         ],
-        Some(65),
+        Some(EntryRule::Classes),
     ),
     (
         "cn=ann,dc=example",
@@ -254,7 +254,7 @@ static CONTENTS: [Row; 10] = [
             ("sn", "Lee"),
             ("objectClass", "simpleSecurityObject"),
         ],
-        Some(65),
+        Some(EntryRule::Classes),
     ),
     // operational attributes (X.501 14.3)
     (
@@ -276,7 +276,7 @@ static CONTENTS: [Row; 10] = [
             ("sn", "Lee"),
             ("subtreeSpecification", "{ }"),
         ],
-        Some(65),
+        Some(EntryRule::Classes),
     ),
     (
         "cn=ann,dc=example",
@@ -286,7 +286,7 @@ static CONTENTS: [Row; 10] = [
             ("sn", "Lee"),
             ("prescriptiveACI", "{ }"),
         ],
-        Some(65),
+        Some(EntryRule::Classes),
     ),
     (
         "cn=policy,dc=example",
@@ -296,7 +296,7 @@ static CONTENTS: [Row; 10] = [
             ("subtreeSpecification", "{ }"),
             ("administrativeRole", "autonomousArea"),
         ],
-        Some(65),
+        Some(EntryRule::Classes),
     ),
 ];
 
@@ -314,7 +314,7 @@ static UNREAD: [Row; 7] = [
             ("sn", "Lee"),
             ("entryACI", "{ }"),
         ],
-        Some(21),
+        Some(EntryRule::Syntaxes),
     ),
     (
         "cn=ann,dc=example",
@@ -324,7 +324,7 @@ static UNREAD: [Row; 7] = [
             ("sn", "Lee"),
             ("subentryACI", "{ }"),
         ],
-        Some(21),
+        Some(EntryRule::Syntaxes),
     ),
     (
         "cn=ann,dc=example",
@@ -356,7 +356,7 @@ static UNREAD: [Row; 7] = [
             ("cn", "local"),
             ("subtreeSpecification", "{ base }"),
         ],
-        Some(21),
+        Some(EntryRule::Syntaxes),
     ),
     (
         "cn=local,ou=area,dc=example",
@@ -365,7 +365,7 @@ static UNREAD: [Row; 7] = [
             ("cn", "local"),
             ("subtreeSpecification", "{ base \"zz=b\" }"),
         ],
-        Some(21),
+        Some(EntryRule::Syntaxes),
     ),
     // before the rule of single values
     (
@@ -378,7 +378,7 @@ static UNREAD: [Row; 7] = [
             ("accessControlScheme", "2.5.28.1"),
             ("accessControlScheme", "2.5.28.2"),
         ],
-        Some(21),
+        Some(EntryRule::Syntaxes),
     ),
 ];
 
@@ -396,7 +396,7 @@ static SINGLE: [Row; 4] = [
             ("dc", "example"),
             ("dc", "other"),
         ],
-        Some(19),
+        Some(EntryRule::SingleValues),
     ),
     (
         "cn=ann,dc=example",
@@ -418,7 +418,7 @@ static SINGLE: [Row; 4] = [
             ("employeeNumber", "1"),
             ("employeeNumber", "2"),
         ],
-        Some(19),
+        Some(EntryRule::SingleValues),
     ),
     // before the rule of places
     (
@@ -430,7 +430,7 @@ static SINGLE: [Row; 4] = [
             ("accessControlScheme", "2.5.28.1"),
             ("accessControlScheme", "2.5.28.2"),
         ],
-        Some(19),
+        Some(EntryRule::SingleValues),
     ),
 ];
 
@@ -444,7 +444,7 @@ static PLACES: [Row; 4] = [
     (
         "cn=ann,cn=policy,ou=area,dc=example",
         &[("objectClass", "person"), ("cn", "Ann"), ("sn", "Lee")],
-        Some(64),
+        Some(EntryRule::Place),
     ),
     (
         "cn=ann,ou=area,dc=example",
@@ -455,7 +455,7 @@ static PLACES: [Row; 4] = [
     (
         "cn=ann,CN=Policy,ou=area,dc=example",
         &[("objectClass", "person"), ("cn", "Ann"), ("sn", "Lee")],
-        Some(64),
+        Some(EntryRule::Place),
     ),
     // a superior that is not there
     (
@@ -475,7 +475,7 @@ fn the_values_of_an_entry_have_at_most_67108864_octets(rt: HostRuntime) -> Resul
     let tree = tree(rt.alloc())?;
     let attributes = [("objectClass", "person"), ("cn", "Ann"), ("sn", "Lee")];
     // the other three values have 6, 3 and 3 octets
-    for (octets, want) in [(67_108_852usize, None), (67_108_853, Some(11))] {
+    for (octets, want) in [(67_108_852usize, None), (67_108_853, Some(EntryRule::Limits))] {
         let mut entry = entry(rt.alloc(), "cn=ann,dc=example", &attributes)?;
         let password = vec![in rt.alloc(); 0u8; octets]?;
         put(rt.alloc(), &mut entry, "userPassword", password)?;
@@ -492,6 +492,6 @@ fn a_suffix_is_checked_in_a_tree_without_entries(rt: HostRuntime) -> Result<(), 
     assert_eq!(rt; check_entry(rt.alloc(), &tree, None, &suffix), Ok(()));
     let subentry = entry(rt.alloc(), "cn=policy", &POLICY)?;
     let found = check_entry(rt.alloc(), &tree, None, &subentry);
-    assert_eq!(rt; found, answer(Some(64)));
+    assert_eq!(rt; found, answer(Some(EntryRule::Place)));
     Ok(())
 }

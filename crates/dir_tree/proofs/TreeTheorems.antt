@@ -7,6 +7,7 @@ pub use Rattle.dir_tree.proofs.tree.KeptLemmas.{has_name-find, has_name-found}
 pub use Rattle.dir_tree.proofs.tree.NameLemmas.{length-same, same-superior, same_like, same_itself, same_back, like_before, Less-from_before, before_not_same, superior_before}
 pub use Rattle.dir_tree.proofs.tree.RootLemmas.{any_put, has_name_like}
 pub use Rattle.dir_tree.proofs.replace.ReplaceLemmas.{IsAllowedThere, allowed_there, place_filled, place_under}
+pub use Rattle.dir_tree.proofs.replace.ReviseLemmas.{called_same}
 pub use Rattle.dir_tree.proofs.classes.ClassLemmas.{list_any-above}
 pub use Rattle.dir_tree.proofs.tree.FrontLemmas.{same_over, begins, begins_both, prefix_same, prefix_like, child_same, at_base, length-front, length-superior, filled}
 pub use Rattle.dir_tree.proofs.tree.NamedLemmas.{found_same, found_by_own_name, none_named, not_same, not_same_back, later-other, put_in-some, left_out, has_superior}

@@ -1,3 +1,4 @@
 pub mod PlaceLemmas
 pub mod OrderedLemmas
 pub mod ReplaceLemmas
+pub mod ReviseLemmas

@@ -6,6 +6,7 @@ pub mod Points
 pub mod tree
 pub mod Scope
 pub mod Refusals
+pub mod Effects
 pub mod Vacancy
 -- for the inside of the crate alone
 pub mod slots

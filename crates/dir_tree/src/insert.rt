@@ -1,6 +1,6 @@
 //! Entries put in.
 
-ghost use Rattle.std.specs.Prelude.{◌≡◌, ◌≢◌, ◌<◌, ◌⊎◌, [], Some, None, IfOk, IfErr, OnOk, OnErr};
+ghost use Rattle.std.specs.Prelude.{◌≡◌, ◌≢◌, ◌<◌, [], None, IfOk};
 
 use crate::entry::{Entry, NoMemory};
 use crate::number::EntryNo;
@@ -14,9 +14,10 @@ use std::alloc::AllocError;
 
 impl Tree {
     ghost use Rattle.dir_tree.specs.tree.Trees.{most_entries};
-    ghost use Rattle.dir_tree.specs.tree.Numbered.{entries_of, entry_of, put_entry};
+    ghost use Rattle.dir_tree.specs.tree.Numbered.{entries_of};
     ghost use Rattle.dir_tree.specs.Refusals.{insert_refusal};
     ghost use Rattle.dir_tree.specs.Vacancy.{IsVacancy};
+    ghost use Rattle.dir_tree.specs.Effects.{Inserts, InsertsAllowed};
 
     /// Puts the entry in, and gives the number by which it is known: one that is not in use. Its name shares memory
     /// with that of its superior, and the memory that its attributes do not need is given back.
@@ -27,14 +28,8 @@ impl Tree {
     /// such name, is the suffix.
     pub fn insert(&mut self, entry: Entry) -> Result<EntryNo, InsertRefusal>
         requires { entry.name ≢ [] }
-        ensures ok { IfOk result (λ no. self.new ≡ put_entry no.0 entry self.old) }
+        ensures exact { Inserts entry self.old result self.new }
         ensures fits { IfOk result (λ no. no.0 < most_entries) }
-        ensures free { IfOk result (λ no. entry_of no.0 self.old ≡ None) }
-        ensures exact { OnOk result (insert_refusal entry.name (entries_of self.old) ≡ None) }
-        // Want of memory may come before the other causes.
-        ensures cause { IfErr result (λ refusal. (refusal ≡ InsertRefusal.NoMemory)
-            ⊎ (insert_refusal entry.name (entries_of self.old) ≡ Some refusal)) }
-        ensures kept { OnErr result (self.new ≡ self.old) }
     {
         let vacancy = self.vacancy(entry.name())?;
         match self.insert_at(vacancy, entry) {
@@ -47,10 +42,8 @@ impl Tree {
     pub fn insert_at(&mut self, vacancy: Vacancy, entry: Entry) -> Result<EntryNo, NoMemory>
         requires vacant { IsVacancy vacancy entry.name self.old }
         requires named { entry.name ≢ [] }
-        ensures ok { IfOk result (λ no. self.new ≡ put_entry no.0 entry self.old) }
+        ensures exact { InsertsAllowed entry self.old result self.new }
         ensures fits { IfOk result (λ no. no.0 < most_entries) }
-        ensures free { IfOk result (λ no. entry_of no.0 self.old ≡ None) }
-        ensures kept { OnErr result (self.new ≡ self.old) }
     {
         let mut entry = entry;
         self.share_name(vacancy.superior(), &mut entry);
@@ -73,10 +66,8 @@ impl Tree {
     fn put_in(&mut self, entry: Entry) -> Result<EntryNo, AllocError>
         requires allowed { insert_refusal entry.name (entries_of self.old) ≡ None }
         requires named { entry.name ≢ [] }
-        ensures ok { IfOk result (λ no. self.new ≡ put_entry no.0 entry self.old) }
+        ensures exact { InsertsAllowed entry self.old result self.new }
         ensures fits { IfOk result (λ no. no.0 < most_entries) }
-        ensures free { IfOk result (λ no. entry_of no.0 self.old ≡ None) }
-        ensures kept { OnErr result (self.new ≡ self.old) }
     {
         let path = copy_path(entry.name())?;
         make_room(&mut self.subentries, &entry)?;

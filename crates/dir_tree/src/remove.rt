@@ -1,6 +1,6 @@
 //! Entries taken out.
 
-ghost use Rattle.std.specs.Prelude.{◌≡◌, Some, None, IfOk, IfErr, OnOk, OnErr, IsSomeAnd, MatchResult, true, false};
+ghost use Rattle.std.specs.Prelude.{◌≡◌, Some, None, IfOk, IfErr, OnOk, true, false};
 ghost use Rattle.std.specs.Option.{option_map_or};
 ghost use Rattle.dir_tree.specs.Removals.{IsRemovable};
 
@@ -15,19 +15,16 @@ use std::ops::Bound;
 
 impl Tree {
     ghost use Rattle.dir_tree.specs.tree.Trees.{has_below};
-    ghost use Rattle.dir_tree.specs.tree.Numbered.{entries_of, entry_of, without};
+    ghost use Rattle.dir_tree.specs.tree.Numbered.{entries_of, entry_of};
     ghost use Rattle.dir_tree.specs.Refusals.{remove_refusal};
+    ghost use Rattle.dir_tree.specs.Effects.{IsRemoved, RemovesWithoutMemory};
 
     /// Takes the entry of the number out, which then is not in use. Takes no memory.
     ///
     /// Each refusal comes in exactly one case: `Absent` for a number that is not in use, and `HasBelow` for an entry
     /// that has entries below it. `NoMemory` never comes.
     pub fn remove(&mut self, no: EntryNo) -> Result<Entry, RemoveRefusal>
-        ensures found { IfOk result (λ entry. entry_of no.0 self.old ≡ Some entry) }
-        ensures ok { OnOk result (self.new ≡ without no.0 self.old) }
-        ensures exact { OnOk result (remove_refusal no.0 self.old ≡ None) }
-        ensures cause { IfErr result (λ refusal. remove_refusal no.0 self.old ≡ Some refusal) }
-        ensures kept { OnErr result (self.new ≡ self.old) }
+        ensures exact { RemovesWithoutMemory no.0 self.old result self.new }
     {
         match self.removable(no) {
             Ok(()) => Ok(self.take_out(no)),
@@ -79,8 +76,7 @@ impl Tree {
     // Takes the entry of the number out, and its path key.
     fn take_out(&mut self, no: EntryNo) -> Entry
         requires { IsRemovable no.0 self.old }
-        ensures found { entry_of no.0 self.old ≡ Some result }
-        ensures exact { self.new ≡ without no.0 self.old }
+        ensures exact { IsRemoved no.0 self.old result self.new }
     {
         let entry = take_entry(&mut self.slots, no.0);
         let _number = self.places.remove(entry.name().path().as_slice());

@@ -1,11 +1,10 @@
 //! Entries that take another's place.
 
-ghost use Rattle.std.specs.Prelude.{◌≡◌, ◌⊎◌, ◌&&◌, not, true, false, Some, None, IfOk, IfErr, OnOk, OnErr};
-ghost use Rattle.std.specs.Option.{option_map_or};
+ghost use Rattle.std.specs.Prelude.{◌≡◌, ◌&&◌, not, true, false, Some, None, IfErr, OnOk};
 ghost use Rattle.dn_names.specs.NameOrder.{is_same};
 ghost use Rattle.dir_tree.specs.Removals.{IsReplaceable};
 
-use crate::entry::Entry;
+use crate::entry::{Entry, NoMemory};
 use crate::number::EntryNo;
 use crate::paths::{copy_path, copy_places};
 use crate::reader::{TreeReader, Unread};
@@ -19,9 +18,10 @@ use std::mem::replace;
 
 impl Tree {
     ghost use Rattle.dir_tree.specs.tree.Trees.{has_name, has_below, superior_name};
-    ghost use Rattle.dir_tree.specs.tree.Numbered.{entries_of, entry_of, suffix_of, without, put_entry};
+    ghost use Rattle.dir_tree.specs.tree.Numbered.{entries_of, entry_of, is_called, suffix_of, without};
     ghost use Rattle.dir_tree.specs.Scope.{is_number};
     ghost use Rattle.dir_tree.specs.Refusals.{lacks_place, refusal_in_place, replace_refusal};
+    ghost use Rattle.dir_tree.specs.Effects.{Replaces, ReplacesAllowed};
 
     /// Gives the entry's place to another, which is known by the same number and may stand below another superior. The
     /// memory that the attributes of the other do not need is given back.
@@ -31,13 +31,7 @@ impl Tree {
     /// the suffix, for one whose superior is not the name of another entry, and `HasBelow` where the new name is not the
     /// same as the old one and entries stand below. `NoMemory` may come where none of these does.
     pub fn replace(&mut self, no: EntryNo, entry: Entry) -> Result<Entry, ReplaceRefusal>
-        ensures found { IfOk result (λ old. entry_of no.0 self.old ≡ Some old) }
-        ensures ok { OnOk result (self.new ≡ put_entry no.0 entry (without no.0 self.old)) }
-        ensures exact { OnOk result (replace_refusal no.0 entry.name self.old ≡ None) }
-        // Want of memory comes after the other causes.
-        ensures cause { IfErr result (λ refusal. (refusal ≡ ReplaceRefusal.NoMemory)
-            ⊎ (replace_refusal no.0 entry.name self.old ≡ Some refusal)) }
-        ensures kept { OnErr result (self.new ≡ self.old) }
+        ensures exact { Replaces no.0 entry self.old result self.new }
     {
         match self.replaceable(no, entry.name()) {
             Ok(()) => {
@@ -60,13 +54,7 @@ impl Tree {
         entry: Entry,
         reader: &mut R,
     ) -> Result<Entry, ReplaceRefusal>
-        ensures found { IfOk result (λ old. entry_of no.0 self.old ≡ Some old) }
-        ensures ok { OnOk result (self.new ≡ put_entry no.0 entry (without no.0 self.old)) }
-        ensures exact { OnOk result (replace_refusal no.0 entry.name self.old ≡ None) }
-        // Want of memory comes after the other causes.
-        ensures cause { IfErr result (λ refusal. (refusal ≡ ReplaceRefusal.NoMemory)
-            ⊎ (replace_refusal no.0 entry.name self.old ≡ Some refusal)) }
-        ensures kept { OnErr result (self.new ≡ self.old) }
+        ensures exact { Replaces no.0 entry self.old result self.new }
 
         // What the reader made is of the tree as it is now.
         ensures read { OnOk result (R.has_read reader.old reader.new self.new) }
@@ -82,6 +70,47 @@ impl Tree {
             }
             Err(refusal) => Err(refusal),
         }
+    }
+
+    /// Whether the number is that of an entry of the name; false where it is not in use.
+    pub fn is_called(&self, no: EntryNo, name: &Dn) -> bool
+        ensures exact { result ≡ is_called no.0 name.now self.now }
+    {
+        match self.at(no) {
+            Some(old) => same(name, old.name()),
+            None => false,
+        }
+    }
+
+    /// Gives the entry's place to another of its name, as `replace` does. No name is looked at: such an entry is never
+    /// refused, and the error comes where memory is wanted.
+    pub fn revise(&mut self, no: EntryNo, entry: Entry) -> Result<Entry, NoMemory>
+        requires named { is_called no.0 entry.name self.old ≡ true }
+        ensures exact { ReplacesAllowed no.0 entry self.old result self.new }
+        ensures allowed { replace_refusal no.0 entry.name self.old ≡ None }
+    {
+        self.revise_read(no, entry, &mut Unread)
+    }
+
+    /// Gives the entry's place to another of its name, as `revise` does, and lets the reader read the tree as it then is.
+    /// Where the reader wants memory, the tree is put back as it was, which takes no memory.
+    pub fn revise_read<R: TreeReader>(
+        &mut self,
+        no: EntryNo,
+        entry: Entry,
+        reader: &mut R,
+    ) -> Result<Entry, NoMemory>
+        requires named { is_called no.0 entry.name self.old ≡ true }
+        ensures exact { ReplacesAllowed no.0 entry self.old result self.new }
+        ensures allowed { replace_refusal no.0 entry.name self.old ≡ None }
+
+        // What the reader made is of the tree as it is now.
+        ensures read { OnOk result (R.has_read reader.old reader.new self.new) }
+    {
+        self.entries_form_a_tree();
+        let mut entry = entry;
+        entry.fit();
+        self.change_here(no, entry, reader)
     }
 
     // That an entry of the name may take the place of the entry of the number.
@@ -170,9 +199,7 @@ impl Tree {
     // Gives the place of the entry of the number to another.
     fn change(&mut self, no: EntryNo, entry: Entry) -> Result<Entry, AllocError>
         requires may { IsReplaceable no.0 entry.name self.old }
-        ensures found { IfOk result (λ old. entry_of no.0 self.old ≡ Some old) }
-        ensures ok { OnOk result (self.new ≡ put_entry no.0 entry (without no.0 self.old)) }
-        ensures kept { OnErr result (self.new ≡ self.old) }
+        ensures exact { ReplacesAllowed no.0 entry self.old result self.new }
     {
         if self.is_called(no, entry.name()) {
             self.change_here(no, entry, &mut Unread)
@@ -189,26 +216,13 @@ impl Tree {
         reader: &mut R,
     ) -> Result<Entry, AllocError>
         requires may { IsReplaceable no.0 entry.name self.old }
-        ensures found { IfOk result (λ old. entry_of no.0 self.old ≡ Some old) }
-        ensures ok { OnOk result (self.new ≡ put_entry no.0 entry (without no.0 self.old)) }
-        ensures kept { OnErr result (self.new ≡ self.old) }
+        ensures exact { ReplacesAllowed no.0 entry self.old result self.new }
         ensures read { OnOk result (R.has_read reader.old reader.new self.new) }
     {
         if self.is_called(no, entry.name()) {
             self.change_here(no, entry, reader)
         } else {
             self.change_path_read(no, entry, reader)
-        }
-    }
-
-    // Whether the number is that of an entry of the name.
-    fn is_called(&self, no: EntryNo, name: &Dn) -> bool
-        ensures exact { result
-            ≡ option_map_or (λ old. is_same name.now old.name) (entry_of no.0 self.now) false }
-    {
-        match self.at(no) {
-            Some(old) => same(name, old.name()),
-            None => false,
         }
     }
 
@@ -220,10 +234,8 @@ impl Tree {
         reader: &mut R,
     ) -> Result<Entry, AllocError>
         requires may { IsReplaceable no.0 entry.name self.old }
-        requires called { option_map_or (λ old. is_same entry.name old.name) (entry_of no.0 self.old) false ≡ true }
-        ensures found { IfOk result (λ old. entry_of no.0 self.old ≡ Some old) }
-        ensures ok { OnOk result (self.new ≡ put_entry no.0 entry (without no.0 self.old)) }
-        ensures kept { OnErr result (self.new ≡ self.old) }
+        requires called { is_called no.0 entry.name self.old ≡ true }
+        ensures exact { ReplacesAllowed no.0 entry self.old result self.new }
         ensures read { OnOk result (R.has_read reader.old reader.new self.new) }
     {
         let numbers = relisted(&self.slots, &self.subentries, &entry, no)?;
@@ -242,10 +254,8 @@ impl Tree {
     // Gives the place of the entry of the number to one of another name: its path key comes in before the old one goes.
     fn change_path(&mut self, no: EntryNo, entry: Entry) -> Result<Entry, AllocError>
         requires may { IsReplaceable no.0 entry.name self.old }
-        requires called { option_map_or (λ old. is_same entry.name old.name) (entry_of no.0 self.old) false ≡ false }
-        ensures found { IfOk result (λ old. entry_of no.0 self.old ≡ Some old) }
-        ensures ok { OnOk result (self.new ≡ put_entry no.0 entry (without no.0 self.old)) }
-        ensures kept { OnErr result (self.new ≡ self.old) }
+        requires called { is_called no.0 entry.name self.old ≡ false }
+        ensures exact { ReplacesAllowed no.0 entry self.old result self.new }
     {
         let path = copy_path(entry.name())?;
         let numbers = relisted(&self.slots, &self.subentries, &entry, no)?;
@@ -265,10 +275,8 @@ impl Tree {
         reader: &mut R,
     ) -> Result<Entry, AllocError>
         requires may { IsReplaceable no.0 entry.name self.old }
-        requires called { option_map_or (λ old. is_same entry.name old.name) (entry_of no.0 self.old) false ≡ false }
-        ensures found { IfOk result (λ old. entry_of no.0 self.old ≡ Some old) }
-        ensures ok { OnOk result (self.new ≡ put_entry no.0 entry (without no.0 self.old)) }
-        ensures kept { OnErr result (self.new ≡ self.old) }
+        requires called { is_called no.0 entry.name self.old ≡ false }
+        ensures exact { ReplacesAllowed no.0 entry self.old result self.new }
         ensures read { OnOk result (R.has_read reader.old reader.new self.new) }
     {
         let path = copy_path(entry.name())?;

@@ -1,10 +1,10 @@
 //! Directories.
 
-ghost use Rattle.std.specs.Prelude.{◌≡◌, ◌≢◌, ◌⊎◌, [], Some, None, IfOk, IfErr, IfSome, IsSome, OnOk, OnErr, map};
+ghost use Rattle.std.specs.Prelude.{◌≡◌, ◌≢◌, [], true, Some, IfOk, IfSome, IsSome, map};
 ghost use Rattle.std.specs.List.{AllByRecursion};
 ghost use Rattle.dir_tree.specs.Entry.{EntryInformation};
-ghost use Rattle.dir_tree.specs.tree.Numbered.{entry_of, entries_of, entries_at, put_entry, without};
-ghost use Rattle.dir_tree.specs.Refusals.{insert_refusal, remove_refusal, replace_refusal};
+ghost use Rattle.dir_tree.specs.tree.Numbered.{entry_of, entries_of, entries_at, is_called};
+ghost use Rattle.dir_tree.specs.Effects.{Inserts, Removes, Replaces, ReplacesAllowed};
 ghost use Rattle.acdf_filters.specs.admin_scope.InForce.{in_force};
 ghost use Rattle.acdf_filters.specs.Asking.{protected_of};
 ghost use Rattle.acdf_filters.specs.Granted.{granted, granted_after, granted_new};
@@ -128,13 +128,7 @@ pub trait Dir {
     /// empty; the first entry, of any such name, is the suffix.
     fn insert(&mut self, alloc: Global, entry: Entry) -> Result<EntryNo, InsertRefusal>
         requires named { entry.name ≢ [] }
-        ensures ok { IfOk result (λ no. rows self.new ≡ put_entry no.0 entry (rows self.old)) }
-        ensures free { IfOk result (λ no. entry_of no.0 (rows self.old) ≡ None) }
-        ensures exact { OnOk result (insert_refusal entry.name (entries_of (rows self.old)) ≡ None) }
-        // Want of memory may come before the other causes.
-        ensures cause { IfErr result (λ refusal. (refusal ≡ InsertRefusal.NoMemory)
-            ⊎ (insert_refusal entry.name (entries_of (rows self.old)) ≡ Some refusal)) }
-        ensures kept { OnErr result (rows self.new ≡ rows self.old) };
+        ensures exact { Inserts entry (rows self.old) result (rows self.new) };
 
     /// Takes the entry of the number out, which then is not in use.
     ///
@@ -142,12 +136,7 @@ pub trait Dir {
     /// that has entries below it. `NoMemory`, where memory is refused, may come before these, and then nothing has
     /// changed.
     fn remove(&mut self, alloc: Global, no: EntryNo) -> Result<Entry, RemoveRefusal>
-        ensures found { IfOk result (λ entry. entry_of no.0 (rows self.old) ≡ Some entry) }
-        ensures ok { OnOk result (rows self.new ≡ without no.0 (rows self.old)) }
-        ensures exact { OnOk result (remove_refusal no.0 (rows self.old) ≡ None) }
-        ensures cause { IfErr result (λ refusal. (refusal ≡ RemoveRefusal.NoMemory)
-            ⊎ (remove_refusal no.0 (rows self.old) ≡ Some refusal)) }
-        ensures kept { OnErr result (rows self.new ≡ rows self.old) };
+        ensures exact { Removes no.0 (rows self.old) result (rows self.new) };
 
     /// Gives the entry's place to another, which is known by the same number and may stand below another superior. The
     /// memory that the attributes of the other do not need is given back.
@@ -158,10 +147,11 @@ pub trait Dir {
     /// same as the old one and entries stand below. `NoMemory`, where memory is refused, may come before these, and then
     /// nothing has changed.
     fn replace(&mut self, alloc: Global, no: EntryNo, entry: Entry) -> Result<Entry, ReplaceRefusal>
-        ensures found { IfOk result (λ old. entry_of no.0 (rows self.old) ≡ Some old) }
-        ensures ok { OnOk result (rows self.new ≡ put_entry no.0 entry (without no.0 (rows self.old))) }
-        ensures exact { OnOk result (replace_refusal no.0 entry.name (rows self.old) ≡ None) }
-        ensures cause { IfErr result (λ refusal. (refusal ≡ ReplaceRefusal.NoMemory)
-            ⊎ (replace_refusal no.0 entry.name (rows self.old) ≡ Some refusal)) }
-        ensures kept { OnErr result (rows self.new ≡ rows self.old) };
+        ensures exact { Replaces no.0 entry (rows self.old) result (rows self.new) };
+
+    /// Gives the entry's place to another of its name, as `replace` does. No name is looked at: such an entry is never
+    /// refused, and the error comes where memory is wanted.
+    fn revise(&mut self, alloc: Global, no: EntryNo, entry: Entry) -> Result<Entry, NoMemory>
+        requires named { is_called no.0 entry.name (rows self.old) ≡ true }
+        ensures exact { ReplacesAllowed no.0 entry (rows self.old) result (rows self.new) };
 }

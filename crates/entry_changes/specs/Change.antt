@@ -156,7 +156,7 @@ abbrev pub made : Modification → EntryInformation → EntryInformation
 made change entry = left_by change.change change.kind change.values entry
 
 -- what is left, unless there is a refusal
-abbrev pub unless_refused : Option ResultCode → EntryInformation → Result EntryInformation ResultCode
+abbrev pub unless_refused : {A : Type 0} → Option ResultCode → A → Result A ResultCode
 unless_refused None left = Ok left
 unless_refused (Some refusal) left = Err refusal
 

@@ -1,6 +1,6 @@
 //! Changes of an entry.
 
-ghost use Rattle.std.specs.Prelude.{◌≡◌, Ok, IfErr, OnOk};
+ghost use Rattle.std.specs.Prelude.{◌≡◌, Ok, IfOk, IfErr, OnOk};
 ghost use Rattle.ldap_msg.specs.plain_values.Answers.{Answers, IsFaultOf};
 ghost use Rattle.entry_changes.specs.Change.{changed_by, cause_of};
 ghost use Rattle.entry_changes.specs.Steps.{left_in};
@@ -45,6 +45,7 @@ pub fn change_entry<A: EntryAsker>(
 ) -> Result<Entry, ChangeFault>
     ensures exact { Answers (λ entry. entry) cause_of result
         (changed_by (A.asker asker.now) entry.now changes.items) }
+    ensures named { IfOk result (λ left. left.name ≡ entry.now.name) }
 {
     let mut left = Pending::new(alloc, entry.copy(alloc)?)?;
     match apply_each(asker, &mut left, &changes) {

@@ -8,6 +8,7 @@ ghost use Rattle.fault_places.specs.EntryFaults.{place_words, misplaced_said, ru
 use crate::classes::{put_classes, put_values};
 use crate::saying::{NoMemory, put_said};
 use crate::values::put_unread;
+use aci_item::EntryRule;
 use dir_tree::{Entry, Tree};
 use ldif_load::LoadCause;
 use ldif_records::Record;
@@ -49,24 +50,24 @@ fn put_misplaced(tree: &Tree, line: u64, entry: &Entry, out: &mut String) -> Res
     put_said(line, place_words(entry_above(tree, entry)), out)
 }
 
-// Writes which rule of the code an entry breaks, and where.
+// Writes how an entry breaks the rule, and where.
 fn put_rule(
     alloc: Global,
     tree: &Tree,
     given: &Record,
     entry: &Entry,
-    code: u8,
+    rule: EntryRule,
     out: &mut String,
 ) -> Result<(), NoMemory>
     ensures ok { OnOk result (string_bytes out.new
-        ≡ string_bytes out.old ++ rule_said (entries_of tree.now) given.now entry.now code) }
+        ≡ string_bytes out.old ++ rule_said (entries_of tree.now) given.now entry.now rule) }
 {
-    match code {
-        65 => put_classes(given, entry, out),
-        21 => put_unread(alloc, given.lines.as_slice(), out),
-        19 => put_values(given, entry, out),
-        64 => put_misplaced(tree, given.line, entry, out),
-        _ => Ok(()),
+    match rule {
+        EntryRule::Classes => put_classes(given, entry, out),
+        EntryRule::Syntaxes => put_unread(alloc, given.lines.as_slice(), out),
+        EntryRule::SingleValues => put_values(given, entry, out),
+        EntryRule::Place => put_misplaced(tree, given.line, entry, out),
+        EntryRule::RdnValues | EntryRule::StructuralClass | EntryRule::Limits => Ok(()),
     }
 }
 
@@ -94,7 +95,7 @@ pub(crate) fn put_entry_fault(
             "there are 200000 entries or 256 access control subentries already, or the values have more than 67108864 octets\n",
             out,
         ),
-        LoadCause::Rule(code) => put_rule(alloc, tree, given, entry, code, out),
+        LoadCause::Rule(rule) => put_rule(alloc, tree, given, entry, rule, out),
         LoadCause::Name | LoadCause::Kind | LoadCause::Value => Ok(()),
     }
 }

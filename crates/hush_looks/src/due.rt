@@ -14,8 +14,7 @@ fn is_bind(request: &Request) -> bool
 {
     match request {
         Request::Bind(_) => true,
-        Request::Unbind | Request::Search(_) | Request::Modify(_) | Request::Add(_) => false,
-        Request::Delete(_) | Request::Rename(_) | Request::Compare(_) => false,
+        Request::Unbind | Request::Search(_) | Request::Update(_) | Request::Compare(_) => false,
         Request::Abandon(_) | Request::Extended(_, _) => false,
     }
 }

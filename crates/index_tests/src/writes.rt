@@ -15,6 +15,8 @@ enum Write {
     Remove(&'static str),
     /// An entry of the second name takes the place of that of the first.
     Replace(&'static str, &'static str, Attributes),
+    /// An entry of the name takes the place of the one that has it.
+    Revise(&'static str, Attributes),
 }
 
 fn insert<D: Dir>(
@@ -28,6 +30,21 @@ fn insert<D: Dir>(
         return Err(Fail::from("no name"));
     }
     let _number = dir.insert(alloc, entry)?;
+    Ok(())
+}
+
+fn revise<D: Dir>(
+    alloc: Global,
+    dir: &mut D,
+    name: &str,
+    attributes: Attributes,
+) -> Result<(), Fail> {
+    let entry = entry(alloc, name, attributes)?;
+    let number = number(alloc, dir.tree(), name)?;
+    if !dir.tree().is_called(number, entry.name()) {
+        return Err(Fail::from("another name"));
+    }
+    let _old = dir.revise(alloc, number, entry)?;
     Ok(())
 }
 
@@ -45,6 +62,7 @@ fn make_write<D: Dir>(alloc: Global, dir: &mut D, what: Write) -> Result<(), Fai
             let _entry = dir.replace(alloc, number, entry(alloc, new, attributes)?)?;
             Ok(())
         }
+        Write::Revise(name, attributes) => revise(alloc, dir, name, attributes),
     }
 }
 
@@ -215,6 +233,35 @@ fn after_each_write_a_directory_keeps_what_the_entries_say(rt: HostRuntime) -> R
     let alloc = rt.alloc();
     let mut dir = IndexedDir::new(alloc, tree(alloc, &ENTRIES)?)?;
     for (what, name, want) in &WRITES {
+        make_write(alloc, &mut dir, *what)?;
+        let found = told(alloc, &dir, name)?;
+        assert_eq!(rt; found.as_str(), *want, "in force for {name}");
+    }
+    Ok(())
+}
+
+// Entries that take the places of others of their names: a leaf, a point that gets other roles, a subentry that reaches
+// less and then is none, and the suffix in another spelling.
+#[rattlefmt::skip]
+static REVISIONS: [(Write, &str, &str); 11] = [
+    (Write::Revise(LEAF, DEVICE_WITH_UID), LEAF, "cn=top,ou=u cn=uid,ou=u "),
+    (Write::Revise(LEAF, DEVICE), LEAF, "cn=top,ou=u "),
+    (Write::Insert(MORE, ALL), LEAF, "cn=top,ou=u "),
+    (Write::Revise(A, INNER), LEAF, "cn=more,ou=a,ou=u cn=top,ou=u "),
+    (Write::Revise(A, INNER), LEAF, "cn=more,ou=a,ou=u cn=top,ou=u "),
+    (Write::Revise(A, SPECIFIC), LEAF, "cn=more,ou=a,ou=u "),
+    (Write::Revise(MORE, BELOW), A, ""),
+    (Write::Revise(MORE, OTHER), LEAF, ""),
+    (Write::Revise(A, UNIT), LEAF, "cn=top,ou=u "),
+    (Write::Revise("OU=U", UNIT), LEAF, ""),
+    (Write::Revise("ou=u", AUTONOMOUS), LEAF, "cn=top,ou=u "),
+];
+
+#[test]
+fn after_each_revision_a_directory_keeps_what_the_entries_say(rt: HostRuntime) -> Result<(), Fail> {
+    let alloc = rt.alloc();
+    let mut dir = IndexedDir::new(alloc, tree(alloc, &ENTRIES)?)?;
+    for (what, name, want) in &REVISIONS {
         make_write(alloc, &mut dir, *what)?;
         let found = told(alloc, &dir, name)?;
         assert_eq!(rt; found.as_str(), *want, "in force for {name}");

@@ -28,6 +28,7 @@ use Rattle.ldif_records.specs.lines.Places.{physical_from, logical_from, content
 use Rattle.ldif_records.specs.declared.types.LineCause.TheVariants.{Syntax}
 use Rattle.ldif_records.specs.writing.WrittenFile.{written_file}
 use Rattle.dir_tree.specs.tree.Trees.{lacks_superior, put_in}
+use Rattle.aci_item.specs.declared.entry_rule.EntryRule.TheVariants.{Classes, Limits}
 use Rattle.ldif_load.specs.declared.fault.LoadCause.TheVariants.{Name, Kind, Value, Twice, Order, Rule, Limit}
 use Rattle.ldif_load.specs.load.Loading.{Bad, named, entry_of_record, with_lines, with_pairs, with_own_values, ruled, placed}
 use Rattle.ldif_load.specs.load.DataFile.{OfLine, loads}
@@ -105,10 +106,10 @@ a_superior_in_another_spelling : lacks_superior below (bare root ∷ []) ≡ fal
 unfolding bare root below name_cmp is_same
 a_superior_in_another_spelling = refl
 
-a_rule_is_told : ruled 1 (bare root) (Some 65) ≡ Err (Bad 1 (Rule 65))
+a_rule_is_told : ruled 1 (bare root) (Some Classes) ≡ Err (Bad 1 (Rule Classes))
 a_rule_is_told = refl
 
-a_limit_is_told_apart : ruled 1 (bare root) (Some 11) ≡ Err (Bad 1 Limit)
+a_limit_is_told_apart : ruled 1 (bare root) (Some Limits) ≡ Err (Bad 1 Limit)
 a_limit_is_told_apart = refl
 
 -- entries stand in the order of their names

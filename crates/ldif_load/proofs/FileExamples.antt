@@ -15,6 +15,7 @@ use Rattle.ldif_records.specs.lines.Places.{physical_from, logical_from, content
 use Rattle.ldif_records.specs.writing.Written.{is_plain, written_value, written_entry}
 use Rattle.ldif_records.specs.writing.WrittenFile.{written_file}
 use Rattle.aci_item.specs.Rules.{lacks_own_value, has_other_structural, breaks_classes, has_unread, has_two_values, is_misplaced, is_past_limits, broken_rule}
+use Rattle.aci_item.specs.declared.entry_rule.EntryRule.TheVariants.{Classes}
 use Rattle.ldif_load.specs.declared.fault.LoadCause.TheVariants.{Order, Rule, Twice}
 use Rattle.ldif_load.specs.load.Loading.{with_lines, with_pairs, entry_of_record, placed, loaded_entry}
 use Rattle.ldif_load.specs.load.DataFile.{OfRecord, loads_after, loads}
@@ -62,7 +63,7 @@ unfolding ended loading
 a_name_twice = refl
 
 -- no structural class
-no_class : loads (ended ("dn: dc=a" ∷ "objectClass: top" ∷ [])) ≡ Err (record { line = 1; cause = OfRecord (Rule 65) })
+no_class : loads (ended ("dn: dc=a" ∷ "objectClass: top" ∷ [])) ≡ Err (record { line = 1; cause = OfRecord (Rule Classes) })
 unfolding ended loading
 no_class = refl
 

@@ -3,6 +3,7 @@
 ghost use Rattle.std.specs.Prelude.{◌≡◌};
 ghost use Rattle.ldif_load.specs.declared.fault.LoadFault.TheVariants.{Bad, NoMemory};
 
+use aci_item::EntryRule;
 use std::alloc::AllocError;
 use thiserror::Error;
 
@@ -27,9 +28,9 @@ pub enum LoadCause {
     /// The superior of the entry doesn't stand before it.
     #[error("order")]
     Order,
-    /// The entry breaks a rule, the first of which has this result code (RFC 4511 appendix A).
-    #[error("rule {0}")]
-    Rule(u8),
+    /// The entry breaks this rule first.
+    #[error("rule {}", .0.number())]
+    Rule(EntryRule),
     /// The entry goes past a limit of the tree.
     #[error("limit")]
     Limit,

@@ -1,6 +1,6 @@
 //! Records of a data file, loaded.
 
-ghost use Rattle.std.specs.Prelude.{◌≡◌, ℕ, Option, Some, None, IfOk, OnOk, OnErr, IfErr, nat_le, length, true, false};
+ghost use Rattle.std.specs.Prelude.{◌≡◌, Option, Some, None, IfOk, OnOk, OnErr, IfErr, nat_le, length, true, false};
 ghost use Rattle.std.specs.Option.{option_map};
 ghost use Rattle.dir_tree.specs.Entry.{EntryInformation};
 ghost use Rattle.dir_tree.specs.tree.Trees.{most_entries, has_name, lacks_superior, superior_name};
@@ -8,8 +8,9 @@ ghost use Rattle.dir_tree.specs.tree.Numbered.{entries_of, find_name};
 ghost use Rattle.dir_tree.specs.Refusals.{insert_refusal};
 ghost use Rattle.dir_tree.specs.Vacancy.{IsVacancy};
 ghost use Rattle.schema_rules.specs.Checking.{IsFor};
+ghost use Rattle.aci_item.specs.declared.entry_rule.EntryRule.{EntryRule};
 ghost use Rattle.aci_item.specs.Rules.{broken_rule};
-ghost use Rattle.ldif_load.specs.load.Loading.{entry_of_record, ruled, placed, loaded_entry, IsLoaded, fault_of};
+ghost use Rattle.ldif_load.specs.load.Loading.{cause_of, entry_of_record, ruled, placed, loaded_entry, IsLoaded, fault_of};
 ghost use Rattle.dir_tree.specs.plain_values.Answers.{Answers, IsFaultOf};
 
 use crate::fault::{LoadCause, LoadFault, bad_at};
@@ -17,7 +18,7 @@ use crate::lines::{add_lines, named};
 use crate::own::add_own_values;
 use dir_tree::{Entry, EntryNo, InsertRefusal, Tree, Vacancy};
 use ldif_records::Record;
-use schema_rules::{Broken, check_entry, check_entry_below};
+use schema_rules::{Broken, EntryRule, check_entry, check_entry_below};
 use std::alloc::Global;
 
 // The entry of a record, wherever it will stand.
@@ -31,14 +32,23 @@ fn entry_of_record(alloc: Global, given: Record) -> Result<Entry, LoadFault>
     Ok(entry)
 }
 
-// The fault of an entry that breaks a rule: what goes past a limit is told apart.
+// What is told of an entry that breaks the rule: what goes past a limit is told apart.
+fn cause_of(rule: EntryRule) -> LoadCause
+    ensures exact { result ≡ cause_of rule }
+{
+    match rule {
+        EntryRule::Limits => LoadCause::Limit,
+        _ => LoadCause::Rule(rule),
+    }
+}
+
+// The fault of an entry that breaks a rule.
 fn fault_of(line: u64, broken: Broken) -> LoadFault
-    ensures exact { (entry : EntryInformation) (code : Option ℕ) → IsFor broken code
-        → IsFaultOf (fault_of result) (ruled line entry code) }
+    ensures exact { (entry : EntryInformation) (rule : Option EntryRule) → IsFor broken rule
+        → IsFaultOf (fault_of result) (ruled line entry rule) }
 {
     match broken {
-        Broken::Rule(11) => bad_at(line, LoadCause::Limit),
-        Broken::Rule(code) => bad_at(line, LoadCause::Rule(code)),
+        Broken::Rule(rule) => bad_at(line, cause_of(rule)),
         Broken::NoMemory => LoadFault::NoMemory,
     }
 }

@@ -14,13 +14,18 @@ use Rattle.dir_tree.specs.dn_names.NameValues.{value_of}
 use Rattle.dir_tree.specs.dn_names.declared.error.BadName.TheVariants.{TooMany}
 use Rattle.dir_tree.specs.Entry.{EntryInformation}
 use Rattle.ldif_load.specs.load.Loading.{with_pairs}
+use Rattle.acdf_filters.specs.aci_item.declared.entry_rule.EntryRule.{EntryRule}
+use Rattle.acdf_filters.specs.aci_item.declared.entry_rule.EntryRule.TheVariants as rule
 use Rattle.acdf_filters.specs.aci_item.declared.permission.Permission.{Permission}
+use Rattle.acdf_filters.specs.aci_item.EntryRule.{rule_number}
 use Rattle.acdf_filters.specs.declared.asking.Requester.{Requester}
 use Rattle.acdf_filters.specs.Asking.{Protected, Entry, Kind, Value}
 use Rattle.ldap_msg.specs.declared.operations.ResultCode.TheVariants as code
+use Rattle.ldap_msg.specs.operations.ResultCodes.{code_number}
 use Rattle.ldap_msg.specs.declared.kinds.KindValues.{KindValues}
 use Rattle.read_model.specs.Views.{result_of}
 use Rattle.op_add_delete.specs.reading.NewEntries.{read_values, read_each, read_attributes, repeats, new_entry}
+use Rattle.op_add_delete.specs.RuleCodes.{rule_code}
 use Rattle.op_add_delete.specs.adding.Adding.{refuses_entry, rule_refusal}
 use Rattle.op_add_delete.specs.adding.Updates.{Changed, Refused, Made, unless, left_by, IsChanged, deleted_named, added_named}
 
@@ -95,8 +100,18 @@ unfolding all_but_passwords refuses_entry
 nothing_refused = refl
 
 -- a rule is told by its code
-a_rule : rule_refusal (Some 65) ≡ Some (result_of code.ObjectClassViolation)
+a_rule : rule_refusal (Some rule.Classes) ≡ Some (result_of code.ObjectClassViolation)
 a_rule = refl
+
+-- which has the rule's number
+same_number : (broken : EntryRule) → code_number (rule_code broken) ≡ rule_number broken
+same_number rule.RdnValues = refl
+same_number rule.StructuralClass = refl
+same_number rule.Classes = refl
+same_number rule.Syntaxes = refl
+same_number rule.SingleValues = refl
+same_number rule.Place = refl
+same_number rule.Limits = refl
 
 -- a refused change leaves the entries, and one that is made leaves its own
 refused_change : unless (Some (result_of code.EntryAlreadyExists)) (bare root ∷ bare below ∷ []) ≡ Refused (result_of code.EntryAlreadyExists)

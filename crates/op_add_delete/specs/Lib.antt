@@ -2,6 +2,7 @@
 pub mod Deleting
 pub mod reading
 pub mod adding
+pub mod RuleCodes
 -- the words of crates below, handed on
 pub use Rattle.directory.specs as directory
 pub use Rattle.read_model.specs as read_model

@@ -14,14 +14,13 @@ ghost use Rattle.op_add_delete.specs.adding.Updates.{IsChanged, unless, added_en
 
 use crate::fault::Fault;
 use crate::reading::new_entry;
+use crate::rule_codes::rule_code;
 use acdf_filters::aci_item::Permission;
 use acdf_filters::{Item, Requester};
 use dir_tree::dn_names::{Dn, Value};
 use dir_tree::schema_tables::AttrId;
 use dir_tree::{Entry, NoMemory, Tree};
-use directory::{
-    Asking, Dir, Newcomer, Target, no_such_object, read_named, result_numbered, result_of,
-};
+use directory::{Asking, Dir, Newcomer, Target, no_such_object, read_named, result_of};
 use ldap_msg::{AddRequest, KindValues, LdapResult, ResultCode};
 use ldif_load::schema_rules::{Broken, check_entry};
 use std::alloc::{AllocError, Global};
@@ -129,7 +128,7 @@ fn rule_refusal(alloc: Global, tree: &Tree, entry: &Entry) -> Result<Option<Ldap
 {
     match check_entry(alloc, tree, None, entry) {
         Ok(()) => Ok(None),
-        Err(Broken::Rule(code)) => Ok(Some(result_numbered(alloc, code))),
+        Err(Broken::Rule(rule)) => Ok(Some(result_of(alloc, rule_code(rule)))),
         Err(Broken::NoMemory) => Err(AllocError),
     }
 }

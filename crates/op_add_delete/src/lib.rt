@@ -6,6 +6,7 @@ mod adding;
 mod deleting;
 mod fault;
 mod reading;
+mod rule_codes;
 mod twice;
 
 pub use adding::add;
@@ -15,4 +16,5 @@ pub use fault::Fault;
 pub use ldif_load::schema_rules;
 pub use read_model;
 pub use reading::{Given, new_entry, read_attribute};
+pub use rule_codes::rule_code;
 pub use twice::repeats;

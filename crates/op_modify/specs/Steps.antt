@@ -1,8 +1,8 @@
 -- How a change of an entry is taken step by step: what a call answers for each step.
-use Rattle.std.specs.Prelude.{◌≡◌, ℕ, not, List, [], ◌∷◌, Option, Some}
+use Rattle.std.specs.Prelude.{◌≡◌, ℕ, true, not, List, [], ◌∷◌, Option, Some}
 use Rattle.dir_tree.specs.Entry.{EntryInformation}
 use Rattle.dir_tree.specs.tree.Trees.{has_name, has_below, put_in, taken_out}
-use Rattle.dir_tree.specs.tree.Numbered.{Numbered, entries_of, entry_of}
+use Rattle.dir_tree.specs.tree.Numbered.{Numbered, entries_of, entry_of, is_called}
 use Rattle.acdf_filters.specs.aci_item.Rules.{broken_rule}
 use Rattle.acdf_filters.specs.declared.asking.Requester.{Requester}
 use Rattle.ldap_msg.specs.plain_values.Refusals.{when}
@@ -23,6 +23,17 @@ pub record IsInPlace (changed : Changed) (rows : List Numbered) (id : ℕ) (entr
   pub target : EntryInformation
   pub found : entry_of id rows ≡ Some target
   pub leaves : changed ≡ Made (put_in entry (taken_out target.name (entries_of rows)))
+
+-- the entry is among those after in the place of that of the number among those before, which is in use
+abbrev pub ComesInPlace : List Numbered → ℕ → EntryInformation → List Numbered → Type 0
+ComesInPlace rows id entry new =
+    (target : EntryInformation) → entry_of id rows ≡ Some target
+    → entries_of new ≡ put_in entry (taken_out target.name (entries_of rows))
+
+-- an entry that may come has the name of the one whose place it takes
+abbrev pub KeepsName : List Numbered → Checked → Type 0
+KeepsName rows (checked.Refused refusal) = Unit {0}
+KeepsName rows (checked.Allowed number entry) = is_called number.0 entry.name rows ≡ true
 
 -- what came of the checks is what the change comes to
 abbrev pub IsChecked : Changed → List Numbered → Checked → Type 0

@@ -7,11 +7,11 @@ ghost use Rattle.entry_changes.specs.Change.{changed_by};
 ghost use Rattle.op_add_delete.specs.adding.Updates.{IsChanged};
 ghost use Rattle.op_modify.specs.ReadChanges.{read_changes};
 ghost use Rattle.op_modify.specs.Modifying.{asker_of, modified_as, modified_target, modified_by, modified_named, modified};
-ghost use Rattle.op_modify.specs.Steps.{IsChecked};
+ghost use Rattle.op_modify.specs.Steps.{IsChecked, KeepsName};
 
 use crate::asker::TargetAsker;
 use crate::reading::read_changes;
-use crate::replacing::{Checked, make, rule_refusal};
+use crate::replacing::{Checked, make_revised, rule_refusal};
 use acdf_filters::aci_item::Permission;
 use acdf_filters::{Item, Requester};
 use dir_tree::dn_names::Dn;
@@ -28,9 +28,11 @@ fn check_left<D: Dir>(
     target: &Target<'_, '_, D>,
     left: Entry,
 ) -> Result<Checked, NoMemory>
+    requires named { left.name ≡ target.now.entry.now.name }
     ensures ok { IfOk result (λ checked. IsChecked
         (modified_as (entries_of (D.rows target.now.asking.now.dir.now)) target.now.entry.now (Ok left))
         (D.rows target.now.asking.now.dir.now) checked) }
+    ensures named { IfOk result (KeepsName (D.rows target.now.asking.now.dir.now)) }
 {
     match rule_refusal(alloc, target, &left)? {
         Some(refusal) => Ok(Checked::Refused(refusal)),
@@ -50,6 +52,7 @@ fn check_changes<D: Dir>(
         target.now.entry.now)
         target.now.entry.now changes.items))
         (D.rows target.now.asking.now.dir.now) checked) }
+    ensures named { IfOk result (KeepsName (D.rows target.now.asking.now.dir.now)) }
 {
     let asker = TargetAsker { target };
     match change_entry(alloc, &asker, target.entry, changes) {
@@ -70,6 +73,7 @@ fn check_target<D: Dir>(
         (modified_target (entries_of (D.rows asking.now.dir.now)) asking.now.who.now name.now changes.items
         (named_in name.now (entries_of (D.rows asking.now.dir.now))))
         (D.rows asking.now.dir.now) checked) }
+    ensures named { IfOk result (KeepsName (D.rows asking.now.dir.now)) }
 {
     let Some(target) = asking.find(name) else {
         return Ok(Checked::Refused(absent(alloc, asking, name)?));
@@ -92,6 +96,7 @@ fn check_modify<D: Dir>(
         (modified_target (entries_of (D.rows dir.now)) who.now name.now changes.items
         (named_in name.now (entries_of (D.rows dir.now))))
         (D.rows dir.now) checked) }
+    ensures named { IfOk result (KeepsName (D.rows dir.now)) }
 {
     let asking = Asking::new(alloc, dir, who)?;
     check_target(alloc, &asking, name, changes)
@@ -111,7 +116,7 @@ fn modify_by<D: Dir>(
     ensures kept { OnErr result (D.rows dir.new ≡ D.rows dir.old) }
 {
     let checked = check_modify(alloc, dir, who, name, changes)?;
-    make(alloc, dir, checked)
+    make_revised(alloc, dir, checked)
 }
 
 // A modify of the entry of the name by the changes that a request lists.

@@ -1,17 +1,17 @@
 //! Entries that take another's place.
 
-ghost use Rattle.std.specs.Prelude.{◌≡◌, Some, IfOk, OnOk, OnErr};
-ghost use Rattle.dir_tree.specs.Entry.{EntryInformation};
-ghost use Rattle.dir_tree.specs.tree.Trees.{put_in, taken_out};
-ghost use Rattle.dir_tree.specs.tree.Numbered.{entry_of, entries_of};
+ghost use Rattle.std.specs.Prelude.{◌≡◌, true, Some, IfOk, OnOk, OnErr};
+ghost use Rattle.dir_tree.specs.tree.Trees.{taken_out};
+ghost use Rattle.dir_tree.specs.tree.Numbered.{entries_of, is_called};
 ghost use Rattle.acdf_filters.specs.aci_item.Rules.{broken_rule};
 ghost use Rattle.op_add_delete.specs.adding.Adding.{rule_refusal};
 ghost use Rattle.op_add_delete.specs.adding.Updates.{Changed, IsChanged};
-ghost use Rattle.op_modify.specs.Steps.{IsChecked};
+ghost use Rattle.op_modify.specs.Steps.{ComesInPlace, IsChecked, KeepsName};
 
 use dir_tree::{Entry, EntryNo, NoMemory};
 use ldap_msg::LdapResult;
-use op_add_delete::directory::{Dir, Target, result_numbered};
+use op_add_delete::directory::{Dir, Target, result_of};
+use op_add_delete::rule_code;
 use op_add_delete::schema_rules::{Broken, check_entry};
 use std::alloc::{AllocError, Global};
 
@@ -37,7 +37,7 @@ pub(crate) fn rule_refusal<D: Dir>(
     tree.entries_form_a_tree();
     match check_entry(alloc, tree, Some(target.number), entry) {
         Ok(()) => Ok(None),
-        Err(Broken::Rule(code)) => Ok(Some(result_numbered(alloc, code))),
+        Err(Broken::Rule(rule)) => Ok(Some(result_of(alloc, rule_code(rule)))),
         Err(Broken::NoMemory) => Err(AllocError),
     }
 }
@@ -49,8 +49,7 @@ fn replace<D: Dir>(
     number: EntryNo,
     entry: Entry,
 ) -> Result<(), NoMemory>
-    ensures ok { OnOk result ((target : EntryInformation) → entry_of number.0 (D.rows dir.old) ≡ Some target
-        → entries_of (D.rows dir.new) ≡ put_in entry (taken_out target.name (entries_of (D.rows dir.old)))) }
+    ensures ok { OnOk result (ComesInPlace (D.rows dir.old) number.0 entry (D.rows dir.new)) }
     ensures kept { OnErr result (D.rows dir.new ≡ D.rows dir.old) }
 {
     dir.tree().entries_form_a_tree();
@@ -58,6 +57,18 @@ fn replace<D: Dir>(
         Ok(_entry) => Ok(()),
         Err(_) => Err(AllocError),
     }
+}
+
+// Gives the place of the entry of the number to another of its name. After the error, want of memory, the directory is as
+// before.
+fn revise<D: Dir>(alloc: Global, dir: &mut D, number: EntryNo, entry: Entry) -> Result<(), NoMemory>
+    requires named { is_called number.0 entry.name (D.rows dir.old) ≡ true }
+    ensures ok { OnOk result (ComesInPlace (D.rows dir.old) number.0 entry (D.rows dir.new)) }
+    ensures kept { OnErr result (D.rows dir.new ≡ D.rows dir.old) }
+{
+    dir.tree().entries_form_a_tree();
+    let _old = dir.revise(alloc, number, entry)?;
+    Ok(())
 }
 
 /// Makes the change that was checked, unless it is refused. The error comes where memory is wanted, and the directory is
@@ -75,6 +86,26 @@ pub(crate) fn make<D: Dir>(
         Checked::Refused(refusal) => Ok(Some(refusal)),
         Checked::Allowed(number, entry) => {
             replace(alloc, dir, number, entry)?;
+            Ok(None)
+        }
+    }
+}
+
+/// Makes the change that was checked, as `make` does, where an entry that comes keeps the name: no name is looked at.
+pub(crate) fn make_revised<D: Dir>(
+    alloc: Global,
+    dir: &mut D,
+    checked: Checked,
+) -> Result<Option<LdapResult>, NoMemory>
+    requires named { KeepsName (D.rows dir.old) checked }
+    ensures ok { IfOk result (λ refusal. (changed : Changed) → IsChecked changed (D.rows dir.old) checked
+        → IsChanged (entries_of (D.rows dir.old)) changed refusal (entries_of (D.rows dir.new))) }
+    ensures kept { OnErr result (D.rows dir.new ≡ D.rows dir.old) }
+{
+    match checked {
+        Checked::Refused(refusal) => Ok(Some(refusal)),
+        Checked::Allowed(number, entry) => {
+            revise(alloc, dir, number, entry)?;
             Ok(None)
         }
     }

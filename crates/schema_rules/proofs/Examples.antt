@@ -14,6 +14,7 @@ use Rattle.dir_tree.specs.schema_tables.declared.kinds.Syntax.TheVariants.{Subtr
 use Rattle.aci_item.specs.subtree_spec.SubtreeText.{read_subtree}
 use Rattle.aci_item.specs.AciText.{read_item}
 use Rattle.aci_item.specs.Listed.{are_in_line}
+use Rattle.aci_item.specs.declared.entry_rule.EntryRule.TheVariants.{RdnValues, StructuralClass, Classes, SingleValues, Place}
 use Rattle.aci_item.specs.Rules.{broken_rule, lacks_own_value, has_other_structural, breaks_classes, is_unread, has_unread, has_two_values, is_misplaced, is_past_limits, stands_wrong, octets_in}
 
 -- a value of its key, which stands for its octets too
@@ -97,49 +98,49 @@ unfolding breaking
 classes_in_line = refl
 
 -- notAllowedOnRDN comes before all others
-no_own_value : broken_rule None (suffix ∷ []) (entry lee (one 0 "2.5.6.6" ∷ one 1 "ann" ∷ one 2 "lee" ∷ [])) ≡ Some 67
+no_own_value : broken_rule None (suffix ∷ []) (entry lee (one 0 "2.5.6.6" ∷ one 1 "ann" ∷ one 2 "lee" ∷ [])) ≡ Some RdnValues
 unfolding breaking
 no_own_value = refl
 
-no_own_value_and_no_class : broken_rule None [] (entry ann []) ≡ Some 67
+no_own_value_and_no_class : broken_rule None [] (entry ann []) ≡ Some RdnValues
 unfolding breaking
 no_own_value_and_no_class = refl
 
 -- objectClassViolation
-no_class : broken_rule None (suffix ∷ []) (entry ann (one 1 "ann" ∷ [])) ≡ Some 65
+no_class : broken_rule None (suffix ∷ []) (entry ann (one 1 "ann" ∷ [])) ≡ Some Classes
 unfolding breaking
 no_class = refl
 
-no_such_class : broken_rule None (suffix ∷ []) (of_classes (value "2.5.6.6" ∷ value "1.2.3" ∷ [])) ≡ Some 65
+no_such_class : broken_rule None (suffix ∷ []) (of_classes (value "2.5.6.6" ∷ value "1.2.3" ∷ [])) ≡ Some Classes
 unfolding breaking
 no_such_class = refl
 
-abstract_alone : broken_rule None (suffix ∷ []) (entry ann (one 0 "2.5.6.0" ∷ one 1 "ann" ∷ [])) ≡ Some 65
+abstract_alone : broken_rule None (suffix ∷ []) (entry ann (one 0 "2.5.6.0" ∷ one 1 "ann" ∷ [])) ≡ Some Classes
 unfolding breaking
 abstract_alone = refl
 
-auxiliary_alone : broken_rule None (suffix ∷ []) (entry ann (one 0 "1.3.6.1.1.3.1" ∷ one 1 "ann" ∷ one 22 "ann" ∷ [])) ≡ Some 65
+auxiliary_alone : broken_rule None (suffix ∷ []) (entry ann (one 0 "1.3.6.1.1.3.1" ∷ one 1 "ann" ∷ one 22 "ann" ∷ [])) ≡ Some Classes
 unfolding breaking
 auxiliary_alone = refl
 
-two_lines : broken_rule None (suffix ∷ []) (of_classes (value "2.5.6.6" ∷ value "2.5.6.8" ∷ [])) ≡ Some 65
+two_lines : broken_rule None (suffix ∷ []) (of_classes (value "2.5.6.6" ∷ value "2.5.6.8" ∷ [])) ≡ Some Classes
 unfolding breaking
 two_lines = refl
 
 -- a superclass requires the surname
-no_surname : broken_rule None (suffix ∷ []) (entry ann (one 0 "2.16.840.1.113730.3.2.2" ∷ one 1 "ann" ∷ [])) ≡ Some 65
+no_surname : broken_rule None (suffix ∷ []) (entry ann (one 0 "2.16.840.1.113730.3.2.2" ∷ one 1 "ann" ∷ [])) ≡ Some Classes
 unfolding breaking
 no_surname = refl
 
-no_such_attribute : broken_rule None (suffix ∷ []) (with_more (one 23 "ann" ∷ [])) ≡ Some 65
+no_such_attribute : broken_rule None (suffix ∷ []) (with_more (one 23 "ann" ∷ [])) ≡ Some Classes
 unfolding breaking
 no_such_attribute = refl
 
-access_alone : broken_rule None (suffix ∷ []) (of_classes (value "2.5.6.6" ∷ value "2.5.17.1" ∷ [])) ≡ Some 65
+access_alone : broken_rule None (suffix ∷ []) (of_classes (value "2.5.6.6" ∷ value "2.5.17.1" ∷ [])) ≡ Some Classes
 unfolding breaking
 access_alone = refl
 
-a_role_in_a_subentry : broken_rule None (area ∷ []) (entry ann (one 0 "2.5.17.0" ∷ one 1 "ann" ∷ one 30 "{ }" ∷ one 29 "2.5.23.1" ∷ [])) ≡ Some 65
+a_role_in_a_subentry : broken_rule None (area ∷ []) (entry ann (one 0 "2.5.17.0" ∷ one 1 "ann" ∷ one 30 "{ }" ∷ one 29 "2.5.23.1" ∷ [])) ≡ Some Classes
 unfolding breaking
 a_role_in_a_subentry = refl
 
@@ -151,7 +152,7 @@ an_item_is_read : (octets : List ℕ) → is_unread Aci octets ≡ is_err (read_
 an_item_is_read octets = refl
 
 -- constraintViolation
-two_schemes : broken_rule None (suffix ∷ []) (with_more (two 31 "2.5.28.1" "2.5.28.2" ∷ [])) ≡ Some 19
+two_schemes : broken_rule None (suffix ∷ []) (with_more (two 31 "2.5.28.1" "2.5.28.2" ∷ [])) ≡ Some SingleValues
 unfolding breaking
 two_schemes = refl
 
@@ -160,7 +161,7 @@ unfolding breaking
 two_common_names = refl
 
 -- namingViolation
-below_a_subentry : broken_rule None (area ∷ subentry ann ∷ []) (entry lee (one 0 "2.5.6.6" ∷ one 1 "lee" ∷ one 2 "lee" ∷ [])) ≡ Some 64
+below_a_subentry : broken_rule None (area ∷ subentry ann ∷ []) (entry lee (one 0 "2.5.6.6" ∷ one 1 "lee" ∷ one 2 "lee" ∷ [])) ≡ Some Place
 unfolding breaking
 below_a_subentry = refl
 
@@ -181,11 +182,11 @@ unfolding breaking
 below_another = refl
 
 -- an entry in the place of an old one: a person that becomes a residential one, or lists a class above its own besides
-other_classes : broken_rule (Some (with_more [])) (suffix ∷ []) (of_classes (value "2.5.6.0" ∷ [])) ≡ Some 69
+other_classes : broken_rule (Some (with_more [])) (suffix ∷ []) (of_classes (value "2.5.6.0" ∷ [])) ≡ Some StructuralClass
 unfolding breaking
 other_classes = refl
 
-a_class_more : broken_rule (Some (with_more [])) (suffix ∷ []) (of_classes (value "2.5.6.6" ∷ value "2.16.840.1.113730.3.2.2" ∷ [])) ≡ Some 69
+a_class_more : broken_rule (Some (with_more [])) (suffix ∷ []) (of_classes (value "2.5.6.6" ∷ value "2.16.840.1.113730.3.2.2" ∷ [])) ≡ Some StructuralClass
 unfolding breaking
 a_class_more = refl
 
@@ -194,7 +195,7 @@ unfolding breaking
 the_same_classes = refl
 
 -- a point above a subentry keeps its role
-no_role_above_a_subentry : broken_rule (Some area) (subentry ann ∷ []) suffix ≡ Some 64
+no_role_above_a_subentry : broken_rule (Some area) (subentry ann ∷ []) suffix ≡ Some Place
 unfolding breaking
 no_role_above_a_subentry = refl
 

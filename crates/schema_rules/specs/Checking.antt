@@ -4,6 +4,7 @@ use Rattle.dir_tree.specs.plain_values.Answers.{IsRefusalOf}
 use Rattle.dir_tree.specs.Entry.{EntryInformation}
 use Rattle.dir_tree.specs.tree.Trees.{superior_name}
 use Rattle.dir_tree.specs.tree.Numbered.{Numbered, entries_of, entry_of, find_name, without}
+use Rattle.aci_item.specs.declared.entry_rule.EntryRule.{EntryRule}
 use Rattle.schema_rules.specs.declared.broken.Broken.{Broken}
 use Rattle.schema_rules.specs.declared.broken.Broken.TheVariants.{Rule, NoMemory}
 
@@ -22,10 +23,10 @@ others None rows = entries_of rows
 others (Some id) rows = entries_of (without id rows)
 
 -- the cause of a refusal, the rule that is broken; want of memory has none
-abbrev pub code_of : Broken → Option ℕ
-code_of (Rule code) = Some code
-code_of NoMemory = None
+abbrev pub rule_of : Broken → Option EntryRule
+rule_of (Rule rule) = Some rule
+rule_of NoMemory = None
 
 -- the refusal is for the rule that is broken, or for want of memory
-abbrev pub IsFor : Broken → Option ℕ → Type 0
-IsFor broken expected = IsRefusalOf (code_of broken) expected
+abbrev pub IsFor : Broken → Option EntryRule → Type 0
+IsFor broken expected = IsRefusalOf (rule_of broken) expected

@@ -1,5 +1,6 @@
 //! Why an entry may not stand in a tree.
 
+use aci_item::EntryRule;
 use std::alloc::AllocError;
 use thiserror::Error;
 
@@ -9,9 +10,9 @@ pub type NoMemory = AllocError;
 /// Why an entry is refused.
 #[derive(Clone, Copy, Debug, PartialEq, Error)]
 pub enum Broken {
-    /// The first rule that the entry breaks has this result code (RFC 4511 appendix A).
-    #[error("rule {0}")]
-    Rule(u8),
+    /// The first rule that the entry breaks.
+    #[error("rule {}", .0.number())]
+    Rule(EntryRule),
     /// There was no memory.
     #[error("no memory")]
     NoMemory,

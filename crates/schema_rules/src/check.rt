@@ -13,8 +13,8 @@ use dir_tree::{Entry, EntryNo, Tree};
 use std::alloc::{AllocError, Global};
 
 /// Whether the entry may stand in the tree in the place of the entry of the number, or, without a number, as a new one:
-/// `Rule` comes exactly where it breaks a rule beside the others, with the code of the first one. `NoMemory` may come
-/// in place of any answer: values of subtreeSpecification are read. A number that is not in use is none.
+/// `Rule` comes exactly where it breaks a rule beside the others, and names the first one. `NoMemory` may come in place
+/// of any answer: values of subtreeSpecification are read. A number that is not in use is none.
 pub fn check_entry(
     alloc: Global,
     tree: &Tree,
@@ -29,7 +29,7 @@ pub fn check_entry(
 {
     let superior = number_above(tree, entry.name());
     match broken_rule(alloc, tree, old, superior, entry) {
-        Ok(Some(code)) => Err(Broken::Rule(code)),
+        Ok(Some(rule)) => Err(Broken::Rule(rule)),
         Ok(None) => Ok(()),
         Err(AllocError) => Err(Broken::NoMemory),
     }
@@ -49,7 +49,7 @@ pub fn check_entry_below(
         IsFor broken (broken_rule None (entries_of tree.now) entry.now)) }
 {
     match broken_rule(alloc, tree, None, superior, entry) {
-        Ok(Some(code)) => Err(Broken::Rule(code)),
+        Ok(Some(rule)) => Err(Broken::Rule(rule)),
         Ok(None) => Ok(()),
         Err(AllocError) => Err(Broken::NoMemory),
     }

@@ -16,5 +16,6 @@ mod rules;
 mod structural;
 mod values;
 
+pub use aci_item::EntryRule;
 pub use broken::{Broken, NoMemory};
 pub use check::{check_entry, check_entry_below};

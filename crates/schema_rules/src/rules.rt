@@ -15,11 +15,12 @@ use crate::own::lacks_own_value;
 use crate::points::is_misplaced;
 use crate::structural::has_other_structural;
 use crate::values::{has_two_values, has_unread};
+use aci_item::EntryRule;
 use dir_tree::{Entry, EntryNo, Tree};
 use std::alloc::Global;
 
-/// The result code of the first rule that the entry breaks in the tree, as a new one or in the place of the entry of the
-/// first number; None where it breaks none. The second number is that of its superior.
+/// The first rule that the entry breaks in the tree, as a new one or in the place of the entry of the first number; None
+/// where it breaks none. The second number is that of its superior.
 #[tactic(auto, unfolding(aci_item::specs::Rules::broken_rule))]
 pub(crate) fn broken_rule(
     alloc: Global,
@@ -27,26 +28,26 @@ pub(crate) fn broken_rule(
     old: Option<EntryNo>,
     superior: Option<EntryNo>,
     entry: &Entry,
-) -> Result<Option<u8>, NoMemory>
+) -> Result<Option<EntryRule>, NoMemory>
     requires { IsSuperior (option_map (λ no. no.0) superior) entry.now tree.now }
-    ensures exact { IfOk result (λ code. code
+    ensures exact { IfOk result (λ rule. rule
         ≡ broken_rule (replaced (option_map (λ no. no.0) old) tree.now)
         (others (option_map (λ no. no.0) old) tree.now) entry.now) }
 {
     if lacks_own_value(entry) {
-        Ok(Some(67))
+        Ok(Some(EntryRule::RdnValues))
     } else if has_other_structural(tree, old, entry) {
-        Ok(Some(69))
+        Ok(Some(EntryRule::StructuralClass))
     } else if breaks_classes(entry) {
-        Ok(Some(65))
+        Ok(Some(EntryRule::Classes))
     } else if has_unread(alloc, entry)? {
-        Ok(Some(21))
+        Ok(Some(EntryRule::Syntaxes))
     } else if has_two_values(entry) {
-        Ok(Some(19))
+        Ok(Some(EntryRule::SingleValues))
     } else if is_misplaced(tree, old, superior, entry) {
-        Ok(Some(64))
+        Ok(Some(EntryRule::Place))
     } else if is_past_limits(tree, old, entry) {
-        Ok(Some(11))
+        Ok(Some(EntryRule::Limits))
     } else {
         Ok(None)
     }

@@ -9,6 +9,7 @@ use Rattle.whole_blocks.specs.Blocks.{is_within, IsLine, IsBlock, block_text, bl
 use Rattle.whole_blocks.proofs.Theorems.{whole-cut}
 use Rattle.ldap_msg.specs.declared.kinds.Request.{Request}
 use Rattle.ldap_msg.specs.declared.kinds.Request.TheVariants as request
+use Rattle.ldap_msg.specs.declared.kinds.Update.TheVariants as update
 use Rattle.ldif_records.proofs.Theorems.{is_inside}
 use Rattle.change_records.specs.Written.{lines_of, record_text}
 use Rattle.change_records.specs.Files.{head_text, file_text, file_of}
@@ -57,10 +58,10 @@ filled-of : (change : Request) → IsWritable change → 0 < length (lines_of ch
 filled-of (request.Bind bind) is = absurd is
 filled-of request.Unbind is = absurd is
 filled-of (request.Search search) is = absurd is
-filled-of (request.Modify modify) is = omega arith
-filled-of (request.Add add) is = omega arith
-filled-of (request.Delete delete) is = omega arith
-filled-of (request.Rename rename) is = omega arith
+filled-of (request.Update (update.Modify modify)) is = omega arith
+filled-of (request.Update (update.Add add)) is = omega arith
+filled-of (request.Update (update.Delete delete)) is = omega arith
+filled-of (request.Update (update.Rename rename)) is = omega arith
 filled-of (request.Compare compare) is = absurd is
 filled-of (request.Abandon id) is = absurd is
 filled-of (request.Extended name value) is = absurd is

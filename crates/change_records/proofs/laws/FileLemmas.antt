@@ -17,6 +17,7 @@ use Rattle.dir_tree.proofs.base_laws_proofs.Theorems.{choose, other_choice}
 use Rattle.whole_blocks.specs.Blocks.{block_text}
 use Rattle.ldap_msg.specs.declared.kinds.Request.{Request}
 use Rattle.ldap_msg.specs.declared.kinds.Request.TheVariants as request
+use Rattle.ldap_msg.specs.declared.kinds.Update.TheVariants as update
 use Rattle.ldif_records.specs.lines.Lines.{Line, numbered}
 use Rattle.ldif_records.specs.reading.Records.{is_blank}
 use Rattle.ldif_records.specs.lines.Places.{physical_from}
@@ -43,10 +44,10 @@ unfolding record_text
 text-block (request.Bind bind) is = absurd is
 text-block request.Unbind is = absurd is
 text-block (request.Search search) is = absurd is
-text-block (request.Modify modify) is = refl
-text-block (request.Add add) is = refl
-text-block (request.Delete delete) is = refl
-text-block (request.Rename rename) is = refl
+text-block (request.Update (update.Modify modify)) is = refl
+text-block (request.Update (update.Add add)) is = refl
+text-block (request.Update (update.Delete delete)) is = refl
+text-block (request.Update (update.Rename rename)) is = refl
 text-block (request.Compare compare) is = absurd is
 text-block (request.Abandon id) is = absurd is
 text-block (request.Extended name value) is = absurd is

@@ -13,6 +13,7 @@ use Rattle.ldap_msg.specs.declared.kinds.Change.{Change}
 use Rattle.ldap_msg.specs.declared.kinds.RenameRequest.{RenameRequest}
 use Rattle.ldap_msg.specs.declared.kinds.Request.{Request}
 use Rattle.ldap_msg.specs.declared.kinds.Request.TheVariants as request
+use Rattle.ldap_msg.specs.declared.kinds.Update.TheVariants as update
 use Rattle.ldif_records.specs.lines.Lines.{Line, numbered}
 use Rattle.ldif_records.specs.Fields.{is_kind, name_line}
 use Rattle.ldif_records.proofs.Theorems.{name-says}
@@ -64,10 +65,10 @@ pub lines-written : (change : Request) → IsWritable change → AllByRecursion 
 lines-written (request.Bind bind) is = absurd is
 lines-written request.Unbind is = absurd is
 lines-written (request.Search search) is = absurd is
-lines-written (request.Modify modify) is = front-rows modify.name (codes "modify") (flat_map change_rows modify.changes) (changes-rows modify.changes is.1)
-lines-written (request.Add add) is = front-rows add.name (codes "add") (flat_map value_rows add.attributes) (given-rows add.attributes is.1)
-lines-written (request.Delete delete) is = front-rows delete.name (codes "delete") [] tt
-lines-written (request.Rename rename) is =
+lines-written (request.Update (update.Modify modify)) is = front-rows modify.name (codes "modify") (flat_map change_rows modify.changes) (changes-rows modify.changes is.1)
+lines-written (request.Update (update.Add add)) is = front-rows add.name (codes "add") (flat_map value_rows add.attributes) (given-rows add.attributes is.1)
+lines-written (request.Update (update.Delete delete)) is = front-rows delete.name (codes "delete") [] tt
+lines-written (request.Update (update.Rename rename)) is =
     front-rows rename.name (codes "modrdn") (rename_rows rename.new_rdn rename.delete_old rename.superior) (
       row-written (codes "newrdn") rename.new_rdn (keystring-kind (codes "newrdn") refl),
       (row-written (codes "deleteoldrdn") (flag_word rename.delete_old) (keystring-kind (codes "deleteoldrdn") refl), superior-rows rename.superior),
@@ -131,17 +132,17 @@ pub record-read : (number : ℕ) (change : Request) → IsWritable change → re
 record-read number (request.Bind bind) is = absurd is
 record-read number request.Unbind is = absurd is
 record-read number (request.Search search) is = absurd is
-record-read number (request.Modify modify) is =
-    front-read number modify.name (codes "modify") (flat_map change_rows modify.changes) (request.Modify modify) is.0 (short-bytes (codes "modify") refl)
-    (ap (λ read. read >>= λ changes. Ok (request.Modify (record { name = modify.name; changes = changes }))) (changes-read (number + 1) (number + 1 + 1) modify.changes is.1))
-record-read number (request.Add add) is =
-    front-read number add.name (codes "add") (flat_map value_rows add.attributes) (request.Add add) is.0 (short-bytes (codes "add") refl)
-    (ap (λ read. read >>= λ attributes. Ok (request.Add (record { name = add.name; attributes = attributes }))) (attributes-read None (number + 1 + 1) add.attributes is.1 is.2))
-record-read number (request.Delete delete) is =
-    front-read number delete.name (codes "delete") [] (request.Delete delete) is (short-bytes (codes "delete") refl) refl
-record-read number (request.Rename rename) is =
-    front-read number rename.name (codes "modrdn") (rename_rows rename.new_rdn rename.delete_old rename.superior) (request.Rename rename) is.0 (short-bytes (codes "modrdn") refl)
-    (ap (λ read. read >>= λ rename. Ok (request.Rename rename)) (rename-read rename (number + 1) (number + 1 + 1) is.1 is.2))
+record-read number (request.Update (update.Modify modify)) is =
+    front-read number modify.name (codes "modify") (flat_map change_rows modify.changes) (request.Update (update.Modify modify)) is.0 (short-bytes (codes "modify") refl)
+    (ap (λ read. read >>= λ changes. Ok (request.Update (update.Modify (record { name = modify.name; changes = changes })))) (changes-read (number + 1) (number + 1 + 1) modify.changes is.1))
+record-read number (request.Update (update.Add add)) is =
+    front-read number add.name (codes "add") (flat_map value_rows add.attributes) (request.Update (update.Add add)) is.0 (short-bytes (codes "add") refl)
+    (ap (λ read. read >>= λ attributes. Ok (request.Update (update.Add (record { name = add.name; attributes = attributes })))) (attributes-read None (number + 1 + 1) add.attributes is.1 is.2))
+record-read number (request.Update (update.Delete delete)) is =
+    front-read number delete.name (codes "delete") [] (request.Update (update.Delete delete)) is (short-bytes (codes "delete") refl) refl
+record-read number (request.Update (update.Rename rename)) is =
+    front-read number rename.name (codes "modrdn") (rename_rows rename.new_rdn rename.delete_old rename.superior) (request.Update (update.Rename rename)) is.0 (short-bytes (codes "modrdn") refl)
+    (ap (λ read. read >>= λ rename. Ok (request.Update (update.Rename rename))) (rename-read rename (number + 1) (number + 1 + 1) is.1 is.2))
 record-read number (request.Compare compare) is = absurd is
 record-read number (request.Abandon id) is = absurd is
 record-read number (request.Extended name value) is = absurd is

@@ -9,13 +9,14 @@ use Rattle.dir_tree.specs.Entry.{Attribute, EntryInformation}
 use Rattle.dir_tree.specs.tree.Trees.{named_in, has_name, superior_name, put_in, taken_out}
 use Rattle.acdf_filters.specs.aci_item.Rules.{broken_rule}
 use Rattle.acdf_filters.specs.declared.asking.Requester.{Requester}
+use Rattle.entry_changes.specs.Change.{unless_refused}
 use Rattle.op_add_delete.specs.reading.NewEntries.{new_entry}
 use Rattle.op_add_delete.specs.adding.Updates.{Made, left_by, deleted, added}
 use Rattle.op_add_delete.proofs.ldif_load_proofs.Theorems.{name-with_pairs}
 use Rattle.change_laws.specs.op_modify.ldap_msg.declared.kinds.AddRequest.{AddRequest}
 use Rattle.change_laws.specs.op_modify.ldap_msg.declared.kinds.DeleteRequest.{DeleteRequest}
 use Rattle.change_laws.specs.Granting.{MayDelete, MayAdd}
-use Rattle.change_replay.specs.Applied.{numbered, unless_refused, target_by, taken_refusal, without_target, without_named, applied_delete, add_rows, with_new, with_named, applied_add}
+use Rattle.change_replay.specs.Applied.{target_by, taken_refusal, rule_refusal, without_target, without_named, applied_delete, add_rows, with_new, with_named, applied_add}
 use Rattle.change_replay.proofs.laws.StepLemmas.{name-read}
 
 -- ---- deletes
@@ -59,7 +60,7 @@ free-new :
 free-new entries name entry same free under unbroken =
     none_from _ _ (ap (λ (name : RdnSequence). taken_refusal (named_in name entries)) same ∙ ap taken_refusal free)
     (none_from _ _ (when_not _ _ (ap (λ (name : RdnSequence). not (has_name (superior_name name) entries)) same ∙ not_from_true _ under))
-    (none_from _ _ unbroken refl))
+    (none_from _ _ (ap rule_refusal unbroken) refl))
 
 add-may :
     (entries : List EntryInformation) (who : Requester) (request : AddRequest) (entry : EntryInformation)
@@ -70,7 +71,7 @@ add-may entries who request entry may =
     let unbroken = subst (λ (entry : EntryInformation). broken_rule None entries entry ≡ None) may.is may.unbroken in
     let same = name-with_pairs (record { name = may.name; attributes = may.attributes }) (last_rdn may.name) in
     ap (λ name. name >>= with_named entries request.attributes) (name-read request.name may.name may.name_read may.named)
-    ∙ ap (λ found. numbered found >>= λ attributes. with_new entries (new_entry may.name attributes)) may.attributes_read
+    ∙ ap (λ found. found >>= λ attributes. with_new entries (new_entry may.name attributes)) may.attributes_read
     ∙ ap (λ refusal. unless_refused refusal (put_in new entries)) (free-new entries may.name new same may.free may.under unbroken)
     ∙ ap (λ (entry : EntryInformation). Ok (put_in entry entries)) (sym may.is)
 

@@ -9,6 +9,7 @@ use Rattle.dir_tree.specs.Entry.{EntryInformation}
 use Rattle.dir_tree.specs.tree.Trees.{named_in, put_in, taken_out}
 use Rattle.acdf_filters.specs.aci_item.Rules.{broken_rule}
 use Rattle.acdf_filters.specs.declared.asking.Requester.{Requester}
+use Rattle.entry_changes.specs.Change.{unless_refused}
 use Rattle.entry_changes.specs.Renaming.{renamed_entry}
 use Rattle.op_add_delete.specs.adding.Updates.{Made, left_by}
 use Rattle.change_laws.specs.op_modify.Modifying.{asker_of, modified}
@@ -17,7 +18,7 @@ use Rattle.change_laws.specs.op_modify.Renames.{new_name, other_named, renamed}
 use Rattle.change_laws.specs.op_modify.ldap_msg.declared.kinds.ModifyRequest.{ModifyRequest}
 use Rattle.change_laws.specs.op_modify.ldap_msg.declared.kinds.RenameRequest.{RenameRequest}
 use Rattle.change_laws.specs.ChangeGranting.{MayModify, MayRename}
-use Rattle.change_replay.specs.Applied.{numbered, unless_refused, target_by, taken_refusal, with_in_place, with_changed, with_changed_named, with_modified, applied_modify, coming_rows, with_moved, with_renamed, with_renamed_named, applied_rename}
+use Rattle.change_replay.specs.Applied.{target_by, taken_refusal, rule_refusal, with_in_place, with_changed, with_changed_named, with_modified, applied_modify, coming_rows, with_moved, with_renamed, with_renamed_named, applied_rename}
 use Rattle.change_replay.proofs.laws.StepLemmas.{name-read, renaming-read}
 use Rattle.change_replay.proofs.laws.GrantLemmas.{changed_by-granted}
 
@@ -30,10 +31,10 @@ modify-may :
 unfolding applied_modify
 modify-may entries who request target left may =
     ap (λ name. name >>= with_modified entries request.changes) (name-read request.name may.name may.name_read may.named)
-    ∙ ap (λ found. numbered found >>= with_changed_named entries may.name) may.changes_read
+    ∙ ap (λ found. found >>= with_changed_named entries may.name) may.changes_read
     ∙ ap (λ found. target_by found >>= with_changed entries may.changes) may.found
-    ∙ ap (λ found. numbered found >>= with_in_place entries target) (changed_by-granted (asker_of entries who target) target may.changes left may.changed)
-    ∙ ap (λ broken. unless_refused broken (put_in left (taken_out target.name entries))) may.unbroken
+    ∙ ap (λ found. found >>= with_in_place entries target) (changed_by-granted (asker_of entries who target) target may.changes left may.changed)
+    ∙ ap (λ broken. unless_refused (rule_refusal broken) (put_in left (taken_out target.name entries))) may.unbroken
 
 abbrev pub Modifies : Type 0
 Modifies =
@@ -62,7 +63,7 @@ free-moved :
 free-moved entries target entry free unbroken =
     let other : other_named entries target entry.name ≡ None =
     cond_both (is_same entry.name target.name) None (named_in entry.name entries) (λ found. found ≡ None) (λ _. refl) free in
-    none_from _ _ (ap taken_refusal other) (none_from _ _ unbroken refl)
+    none_from _ _ (ap taken_refusal other) (none_from _ _ (ap rule_refusal unbroken) refl)
 
 rename-may :
     (entries : List EntryInformation) (who : Requester) (request : RenameRequest) (target entry : EntryInformation)

@@ -23,8 +23,8 @@ use Rattle.change_laws.specs.op_modify.ldap_msg.declared.operations.ResultCode.{
 use Rattle.change_laws.specs.op_modify.ldap_msg.declared.kinds.AddRequest.{AddRequest}
 use Rattle.change_laws.specs.op_modify.ldap_msg.declared.kinds.DeleteRequest.{DeleteRequest}
 use Rattle.change_laws.specs.op_modify.ldap_msg.declared.kinds.ModifyRequest.{ModifyRequest}
-use Rattle.change_replay.specs.Applied.{numbered, name_in, target_in, delete_rows, without_target, without_named, applied_delete, add_rows, with_new, with_named, applied_add, everything, with_in_place, with_changed, with_changed_named, with_modified, applied_modify}
-use Rattle.change_replay.proofs.laws.StepLemmas.{IsName-found, found-target, not_taken, IsUnrefused-left, numbered-value}
+use Rattle.change_replay.specs.Applied.{name_in, target_in, delete_rows, without_target, without_named, applied_delete, add_rows, with_new, with_named, applied_add, everything, rule_refusal, with_in_place, with_changed, with_changed_named, with_modified, applied_modify}
+use Rattle.change_replay.proofs.laws.StepLemmas.{IsName-found, found-target, not_taken, not_broken, IsUnrefused-left}
 use Rattle.change_replay.proofs.laws.AttributeLemmas.{name-new_entry, good-new_entry}
 use Rattle.change_replay.proofs.laws.ValueLemmas.{HasDistinctValues, distinct-read_changes}
 
@@ -74,7 +74,7 @@ good_with_new entries entry some named attributes none good =
       some = put_in-some entry entries;
       good = AreGood-put_in entries entry good.good some named attributes
           (none_named (is_named entry.name) entries (not_taken (named_in entry.name entries) first.0))
-          (superior_there entry.name entries (not-false _ (not_when _ _ second.0))) third.0;
+          (superior_there entry.name entries (not-false _ (not_when _ _ second.0))) (not_broken _ third.0);
     }
 
 pub good-add :
@@ -84,15 +84,14 @@ unfolding applied_add
 good-add entries left request good is =
     let name = both_given (name_in request.name) (with_named entries request.attributes) left is in
     let named = IsName-found request.name name.0 name.1 in
-    let read = both_given (numbered (read_attributes request.attributes)) (λ attributes. with_new entries (new_entry name.0 attributes)) left name.2 in
-    let attributes = numbered-value (read_attributes request.attributes) read.0 read.1 in
+    let read = both_given (read_attributes request.attributes) (λ attributes. with_new entries (new_entry name.0 attributes)) left name.2 in
     let entry = new_entry name.0 read.0 in
     let same = name-new_entry name.0 read.0 in
     let done = IsUnrefused-left (first_some (add_rows entries entry)) (put_in entry entries) left read.2 in
     subst IsGoodTree done.same
     (good_with_new entries entry (λ none. named.some (sym same ∙ none))
     (subst IsGoodName (sym same) (IsGoodName-from_NameText name.0 request.name (NameText-read_name name.0 request.name named.read)))
-    (good-new_entry name.0 request.attributes read.0 attributes) done.none good)
+    (good-new_entry name.0 request.attributes read.0 read.1) done.none good)
 
 -- ---- modifies
 
@@ -143,13 +142,12 @@ module _ (stays : StaysUnderName) (keeps_good : ChangesKeepGood) (keeps_name : C
   unfolding applied_modify
   good-modify entries left request good is =
       let name = both_given (name_in request.name) (with_modified entries request.changes) left is in
-      let read = both_given (numbered (read_changes request.changes)) (with_changed_named entries name.0) left name.2 in
-      let changes = numbered-value (read_changes request.changes) read.0 read.1 in
+      let read = both_given (read_changes request.changes) (with_changed_named entries name.0) left name.2 in
       let target = both_given (target_in entries name.0) (with_changed entries read.0) left read.2 in
       let known = found_by_own_name name.0 target.0 entries (found-target entries name.0 target.0 target.1) in
-      let changed = both_given (numbered (changed_by everything target.0 read.0)) (with_in_place entries target.0) left target.2 in
+      let changed = both_given (changed_by everything target.0 read.0) (with_in_place entries target.0) left target.2 in
       let rest = taken_out target.0.name entries in
-      let done = IsUnrefused-left (broken_rule (Some target.0) rest changed.0) (put_in changed.0 rest) left changed.2 in
+      let done = IsUnrefused-left (rule_refusal (broken_rule (Some target.0) rest changed.0)) (put_in changed.0 rest) left changed.2 in
       subst IsGoodTree done.same
-      (good_with_left entries target.0 changed.0 read.0 known (distinct-read_changes request.changes read.0 changes)
-      (numbered-value (changed_by everything target.0 read.0) changed.0 changed.1) done.none good)
+      (good_with_left entries target.0 changed.0 read.0 known (distinct-read_changes request.changes read.0 read.1)
+      changed.1 (not_broken _ done.none) good)

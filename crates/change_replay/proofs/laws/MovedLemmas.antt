@@ -15,13 +15,15 @@ use Rattle.entry_changes.specs.Renaming.{renamed_entry}
 use Rattle.change_laws.specs.op_modify.declared.renaming.Renaming.{Renaming}
 use Rattle.change_laws.specs.op_modify.ReadRenames.{read_renaming, above}
 use Rattle.change_laws.specs.op_modify.Renames.{new_name, other_named}
+use Rattle.change_laws.specs.op_modify.ldap_msg.declared.operations.ResultCode.{ResultCode}
 use Rattle.change_laws.specs.op_modify.ldap_msg.declared.kinds.RenameRequest.{RenameRequest}
 use Rattle.change_laws.specs.op_modify.ldap_msg.declared.kinds.Request.{Request}
 use Rattle.change_laws.specs.op_modify.ldap_msg.declared.kinds.Request.TheVariants as request
+use Rattle.change_laws.specs.op_modify.ldap_msg.declared.kinds.Update.TheVariants as update
 use Rattle.change_records.specs.declared.types.RecordedChange.{RecordedChange}
 use Rattle.change_replay.specs.Applied.{target_in, leaving_rows, become, coming_rows, with_moved, with_renamed, with_renamed_named, renaming_by, applied_rename, applied}
 use Rattle.change_replay.specs.Replayed.{RefusedChange, at_line, replayed}
-use Rattle.change_replay.proofs.laws.StepLemmas.{found-target, not_taken, IsUnrefused-left, IsRenaming-found}
+use Rattle.change_replay.proofs.laws.StepLemmas.{found-target, not_taken, not_broken, IsUnrefused-left, IsRenaming-found}
 use Rattle.change_replay.proofs.laws.PlaceLemmas.{free_beside}
 use Rattle.change_replay.proofs.laws.RenamingLemmas.{IsRead-read}
 use Rattle.change_replay.proofs.laws.NameLemmas.{IsNewName, IsNewName-read}
@@ -76,7 +78,7 @@ module _ (stays : StaysUnderNewName) (keeps_good : RenameKeepsGood) (called : Re
       record {
         some = put_in-some entry (taken_out target.name entries);
         good = stays entries target entry good.good known (not_when _ _ second.0) name.some (free_beside target.name entry.name entries free) name.under name.good
-            (keeps_good new renaming.delete_old target attributes) broken.0;
+            (keeps_good new renaming.delete_old target attributes) (not_broken _ broken.0);
       }
 
   good-rename :
@@ -102,19 +104,14 @@ module _ (stays : StaysUnderNewName) (keeps_good : RenameKeepsGood) (called : Re
     good-applied :
         (entries left : List EntryInformation) (change : Request) → IsGoodTree entries → applied entries change ≡ Ok left
         → IsGoodTree left
-    good-applied entries left (request.Bind bind) good is = absurd cc
-    good-applied entries left request.Unbind good is = absurd cc
-    good-applied entries left (request.Search search) good is = absurd cc
-    good-applied entries left (request.Modify modify) good is = good-modify stays_named keeps keeps_name entries left modify good is
-    good-applied entries left (request.Add add) good is = good-add entries left add good is
-    good-applied entries left (request.Delete delete) good is = good-delete entries left delete good is
-    good-applied entries left (request.Rename rename) good is = good-rename entries left rename good is
-    good-applied entries left (request.Compare compare) good is = absurd cc
-    good-applied entries left (request.Abandon id) good is = absurd cc
-    good-applied entries left (request.Extended name value) good is = absurd cc
+    good-applied entries left (request.Update (update.Modify modify)) good is = good-modify stays_named keeps keeps_name entries left modify good is
+    good-applied entries left (request.Update (update.Add add)) good is = good-add entries left add good is
+    good-applied entries left (request.Update (update.Delete delete)) good is = good-delete entries left delete good is
+    good-applied entries left (request.Update (update.Rename rename)) good is = good-rename entries left rename good is
+    good-applied entries left other good is = absurd cc
 
     at_line-left :
-        (line : ℕ) (found : Result (List EntryInformation) ℕ) (left : List EntryInformation) → at_line line found ≡ Ok left
+        (line : ℕ) (found : Result (List EntryInformation) ResultCode) (left : List EntryInformation) → at_line line found ≡ Ok left
         → found ≡ Ok left
     at_line-left line (Ok entries) left is = (let same : entries ≡ left = cc in ap Ok same)
     at_line-left line (Err code) left is = absurd cc

@@ -13,6 +13,7 @@ use Rattle.change_laws.specs.op_modify.ldap_msg.declared.kinds.ModifyRequest.{Mo
 use Rattle.change_laws.specs.op_modify.ldap_msg.declared.kinds.RenameRequest.{RenameRequest}
 use Rattle.change_laws.specs.op_modify.ldap_msg.declared.kinds.Request.{Request}
 use Rattle.change_laws.specs.op_modify.ldap_msg.declared.kinds.Request.TheVariants as request
+use Rattle.change_laws.specs.op_modify.ldap_msg.declared.kinds.Update.TheVariants as update
 use Rattle.change_records.specs.Written.{lines_of}
 use Rattle.change_records.specs.Files.{file_text}
 use Rattle.change_records.specs.Laws.{recorded, SaysFront, SaysFrontWhereCut}
@@ -58,37 +59,32 @@ accepted-kept entries (change ∷ done) more kept are = (are.0, accepted-kept (a
 abbrev pub DeletesApply : Type 0
 DeletesApply =
     (entries : List EntryInformation) (who : Requester) (delete : DeleteRequest) (left : List EntryInformation)
-    → deleted entries who delete ≡ Made left → applied entries (request.Delete delete) ≡ Ok left
+    → deleted entries who delete ≡ Made left → applied entries (request.Update (update.Delete delete)) ≡ Ok left
 
 abbrev pub AddsApply : Type 0
 AddsApply =
     (entries : List EntryInformation) (who : Requester) (add : AddRequest) (left : List EntryInformation)
-    → added entries who add ≡ Made left → applied entries (request.Add add) ≡ Ok left
+    → added entries who add ≡ Made left → applied entries (request.Update (update.Add add)) ≡ Ok left
 
 abbrev pub ModifiesApply : Type 0
 ModifiesApply =
     (entries : List EntryInformation) (who : Requester) (modify : ModifyRequest) (left : List EntryInformation)
-    → modified entries who modify ≡ Made left → applied entries (request.Modify modify) ≡ Ok left
+    → modified entries who modify ≡ Made left → applied entries (request.Update (update.Modify modify)) ≡ Ok left
 
 abbrev pub RenamesApply : Type 0
 RenamesApply =
     (entries : List EntryInformation) (who : Requester) (rename : RenameRequest) (left : List EntryInformation)
-    → renamed entries who rename ≡ Made left → applied entries (request.Rename rename) ≡ Ok left
+    → renamed entries who rename ≡ Made left → applied entries (request.Update (update.Rename rename)) ≡ Ok left
 
 module _ (deletes : DeletesApply) (adds : AddsApply) (modifies : ModifiesApply) (renames : RenamesApply) where
   pub applied-outcome :
       (entries : List EntryInformation) (who : Requester) (change : Request) (left : List EntryInformation)
       → outcome entries who change ≡ Made left → applied entries change ≡ Ok left
-  applied-outcome entries who (request.Bind bind) left made = absurd cc
-  applied-outcome entries who request.Unbind left made = absurd cc
-  applied-outcome entries who (request.Search search) left made = absurd cc
-  applied-outcome entries who (request.Modify modify) left made = modifies entries who modify left made
-  applied-outcome entries who (request.Add add) left made = adds entries who add left made
-  applied-outcome entries who (request.Delete delete) left made = deletes entries who delete left made
-  applied-outcome entries who (request.Rename rename) left made = renames entries who rename left made
-  applied-outcome entries who (request.Compare compare) left made = absurd cc
-  applied-outcome entries who (request.Abandon id) left made = absurd cc
-  applied-outcome entries who (request.Extended name value) left made = absurd cc
+  applied-outcome entries who (request.Update (update.Modify modify)) left made = modifies entries who modify left made
+  applied-outcome entries who (request.Update (update.Add add)) left made = adds entries who add left made
+  applied-outcome entries who (request.Update (update.Delete delete)) left made = deletes entries who delete left made
+  applied-outcome entries who (request.Update (update.Rename rename)) left made = renames entries who rename left made
+  applied-outcome entries who other left made = absurd cc
 
   -- one change after the other
   replayed-accepted :

@@ -7,11 +7,12 @@ use Rattle.dir_tree.specs.dn_names.parsing.NameText.{read_name}
 use Rattle.dir_tree.specs.dn_names.declared.error.BadName.{BadName}
 use Rattle.dir_tree.specs.Entry.{EntryInformation}
 use Rattle.dir_tree.specs.tree.Trees.{named_in}
+use Rattle.acdf_filters.specs.aci_item.declared.entry_rule.EntryRule.{EntryRule}
+use Rattle.entry_changes.specs.Change.{unless_refused}
 use Rattle.change_laws.specs.op_modify.declared.renaming.Renaming.{Renaming}
 use Rattle.change_laws.specs.op_modify.ldap_msg.declared.operations.ResultCode.{ResultCode}
 use Rattle.change_laws.specs.op_modify.ldap_msg.declared.operations.ResultCode.TheVariants as code
-use Rattle.change_laws.specs.op_modify.ldap_msg.operations.ResultCodes.{code_number}
-use Rattle.change_replay.specs.Applied.{numbered, unless_refused, named, name_in, target_by, taken_refusal, renaming_by}
+use Rattle.change_replay.specs.Applied.{named, name_in, target_by, taken_refusal, rule_refusal, renaming_by}
 
 -- a name that is read and isn't the empty one is the name of an entry
 pub name-read : (text : List ℕ) (name : RdnSequence) → read_name text ≡ Ok name → name ≢ [] → name_in text ≡ Ok name
@@ -50,19 +51,19 @@ pub not_taken : (found : Option EntryInformation) → taken_refusal found ≡ No
 not_taken None is = refl
 not_taken (Some other) is = absurd cc
 
+-- no rule is broken where none refuses
+pub not_broken : (broken : Option EntryRule) → rule_refusal broken ≡ None → broken ≡ None
+not_broken None is = refl
+not_broken (Some rule) is = absurd cc
+
 -- what nothing refused
-pub record IsUnrefused {A : Type 0} (refusal : Option ℕ) (value left : A) : Type 0 where
+pub record IsUnrefused {A : Type 0} (refusal : Option ResultCode) (value left : A) : Type 0 where
   pub none : refusal ≡ None
   pub same : value ≡ left
 
-pub IsUnrefused-left : {A : Type 0} (refusal : Option ℕ) (value left : A) → unless_refused refusal value ≡ Ok left → IsUnrefused refusal value left
+pub IsUnrefused-left : {A : Type 0} (refusal : Option ResultCode) (value left : A) → unless_refused refusal value ≡ Ok left → IsUnrefused refusal value left
 IsUnrefused-left None value left is = record { none = refl; same = cc }
 IsUnrefused-left (Some code) value left is = absurd cc
-
--- what has no code
-pub numbered-value : {A : Type 0} (found : Result A ResultCode) (value : A) → numbered found ≡ Ok value → found ≡ Ok value
-numbered-value (Ok other) value is = (let same : other ≡ value = cc in ap Ok same)
-numbered-value (Err code) value is = absurd cc
 
 -- the name is not empty
 no_empty : (name : RdnSequence) → name ≢ [] → (length name == 0) ≡ false
@@ -77,7 +78,7 @@ some_rdns (rdn ∷ rdns) some = λ none. cc
 pub renaming-read :
     (found : Option Renaming) (renaming : Renaming) → found ≡ Some renaming → renaming.name ≢ [] → renaming_by found ≡ Ok renaming
 renaming-read found renaming is some =
-    ap renaming_by is ∙ cond-false (length renaming.name == 0) (Err (code_number code.UnwillingToPerform)) (Ok renaming) (no_empty renaming.name some)
+    ap renaming_by is ∙ cond-false (length renaming.name == 0) (Err code.UnwillingToPerform) (Ok renaming) (no_empty renaming.name some)
 
 pub record IsRenaming (found : Option Renaming) (renaming : Renaming) : Type 0 where
   pub read : found ≡ Some renaming
@@ -87,7 +88,7 @@ pub IsRenaming-found : (found : Option Renaming) (renaming : Renaming) → renam
 IsRenaming-found None renaming is = absurd cc
 IsRenaming-found (Some one) renaming is =
     (elim (length one.name == 0)
-    as (λ empty. (length one.name == 0) ≡ empty → (if empty then Err (code_number code.UnwillingToPerform) else Ok one) ≡ Ok renaming → IsRenaming (Some one) renaming) [
+    as (λ empty. (length one.name == 0) ≡ empty → (if empty then Err code.UnwillingToPerform else Ok one) ≡ Ok renaming → IsRenaming (Some one) renaming) [
       | true ↦ λ empty is. absurd cc
       | false ↦ λ filled is. (
           let same : one ≡ renaming = cc in

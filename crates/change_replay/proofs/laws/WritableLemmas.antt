@@ -21,11 +21,11 @@ use Rattle.change_laws.specs.op_modify.ldap_msg.declared.kinds.AddRequest.{AddRe
 use Rattle.change_laws.specs.op_modify.ldap_msg.declared.kinds.ModifyRequest.{ModifyRequest}
 use Rattle.change_laws.specs.op_modify.ldap_msg.declared.kinds.Request.{Request}
 use Rattle.change_laws.specs.op_modify.ldap_msg.declared.kinds.Request.TheVariants as request
+use Rattle.change_laws.specs.op_modify.ldap_msg.declared.kinds.Update.TheVariants as update
 use Rattle.change_records.specs.Laws.{WritesKnownTypes}
 use Rattle.change_records.specs.Writable.{IsWritableAttribute, is_standard, IsWritableChange, IsWritableGiven, AreApart, IsWritable}
-use Rattle.change_replay.specs.Applied.{numbered, name_in, with_changed_named, with_modified, applied_modify, with_new, with_named, applied_add, applied}
+use Rattle.change_replay.specs.Applied.{name_in, with_changed_named, with_modified, applied_modify, with_new, with_named, applied_add, applied}
 use Rattle.change_replay.specs.Laws.{HasOctets, ChangesOctets, IsOfOctets}
-use Rattle.change_replay.proofs.laws.StepLemmas.{numbered-value}
 
 -- the type of an attribute that is read is known
 known_by :
@@ -96,8 +96,8 @@ module _ (known : WritesKnownTypes) where
   unfolding applied_modify
   writable-modify entries left modify is octets =
       let name = both_given (name_in modify.name) (with_modified entries modify.changes) left is in
-      let read = both_given (numbered (read_changes modify.changes)) (with_changed_named entries name.0) left name.2 in
-      writable-changes modify.changes read.0 (numbered-value (read_changes modify.changes) read.0 read.1) octets
+      let read = both_given (read_changes modify.changes) (with_changed_named entries name.0) left name.2 in
+      writable-changes modify.changes read.0 read.1 octets
 
   -- ---- adds
   given-read :
@@ -184,21 +184,16 @@ module _ (known : WritesKnownTypes) where
   unfolding applied_add
   writable-add entries left add is octets =
       let name = both_given (name_in add.name) (with_named entries add.attributes) left is in
-      let read = both_given (numbered (read_attributes add.attributes)) (λ attributes. with_new entries (new_entry name.0 attributes)) left name.2 in
-      writable-given add.attributes read.0 (numbered-value (read_attributes add.attributes) read.0 read.1) octets
+      let read = both_given (read_attributes add.attributes) (λ attributes. with_new entries (new_entry name.0 attributes)) left name.2 in
+      writable-given add.attributes read.0 read.1 octets
 
   -- ---- any request
   pub writable-applied :
       (entries left : List EntryInformation) (change : Request) → applied entries change ≡ Ok left → IsOfOctets change → IsWritable change
-  writable-applied entries left (request.Bind bind) is octets = absurd cc
-  writable-applied entries left request.Unbind is octets = absurd cc
-  writable-applied entries left (request.Search search) is octets = absurd cc
-  writable-applied entries left (request.Modify modify) is octets = (octets.0, writable-modify known entries left modify is octets.1)
-  writable-applied entries left (request.Add add) is octets =
+  writable-applied entries left (request.Update (update.Modify modify)) is octets = (octets.0, writable-modify known entries left modify is octets.1)
+  writable-applied entries left (request.Update (update.Add add)) is octets =
       let both = writable-add entries left add is octets.1 in
       (octets.0, both.0, both.1)
-  writable-applied entries left (request.Delete delete) is octets = octets
-  writable-applied entries left (request.Rename rename) is octets = octets
-  writable-applied entries left (request.Compare compare) is octets = absurd cc
-  writable-applied entries left (request.Abandon id) is octets = absurd cc
-  writable-applied entries left (request.Extended name value) is octets = absurd cc
+  writable-applied entries left (request.Update (update.Delete delete)) is octets = octets
+  writable-applied entries left (request.Update (update.Rename rename)) is octets = octets
+  writable-applied entries left other is octets = absurd cc

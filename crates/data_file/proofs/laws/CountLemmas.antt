@@ -20,8 +20,9 @@ use Rattle.ldif_load.specs.ldif_records.lines.Lines.{Line, numbered, is_continua
 use Rattle.ldif_load.specs.ldif_records.Fields as field
 use Rattle.ldif_load.specs.ldif_records.reading.Records.{◌>>=◌, is_blank, is_version, without_comments, without_version, attribute_lines, record_of, record_between, records}
 use Rattle.ldif_load.specs.ldif_records.lines.Places.{physical_from, logical_from, content_from, body_from, records_from}
+use Rattle.aci_item.specs.declared.entry_rule.EntryRule.{EntryRule}
 use Rattle.aci_item.specs.Rules.{broken_rule}
-use Rattle.ldif_load.specs.declared.fault.LoadCause.TheVariants.{Twice, Order, Rule, Limit}
+use Rattle.ldif_load.specs.declared.fault.LoadCause.TheVariants.{Twice, Order}
 use Rattle.ldif_load.specs.load.Loading.{RecordFault, named, loaded_value, with_new_value, with_new_kind, with_line, with_lines, with_own_values, entry_of_record, ruled, placed, loaded_entry}
 use Rattle.ldif_load.specs.load.Loading as loading
 use Rattle.ldif_load.specs.load.DataFile.{FileFault, in_file, record_entry, loads_after, loads_records, loads, file_start}
@@ -180,10 +181,9 @@ counts-entry_of_record given counted =
     (λ name any. Counts-then line_of_record Anything Anything (with_lines (record { name = name; attributes = [] }) given.lines) (λ entry. Ok (with_own_values entry))
     (counts-with_lines (record { name = name; attributes = [] }) given.lines counted.later) (λ entry any. tt))
 
-counts-ruled : (line : ℕ) (entry : EntryInformation) (broken : Option ℕ) → 1 ≤ line → Counts {A = EntryInformation} line_of_record Anything (ruled line entry broken)
+counts-ruled : (line : ℕ) (entry : EntryInformation) (broken : Option EntryRule) → 1 ≤ line → Counts {A = EntryInformation} line_of_record Anything (ruled line entry broken)
 counts-ruled line entry None counted = tt
-counts-ruled line entry (Some code) counted =
-    either_way (Counts {A = EntryInformation} line_of_record Anything) (code == 11) (Err (loading.Bad line Limit)) (Err (loading.Bad line (Rule code))) counted counted
+counts-ruled line entry (Some rule) counted = counted
 
 counts-placed : (entries : List EntryInformation) (line : ℕ) (entry : EntryInformation) → 1 ≤ line → Counts {A = EntryInformation} line_of_record Anything (placed entries line entry)
 unfolding placed

@@ -1,5 +1,5 @@
 -- What a data file of octets loads is a good tree.
-use Rattle.std.proofs.Common.{◌≡◌, ◌≢◌, ℕ, ◌==◌, Bool, true, false, if◌then◌else◌, List, [], ◌∷◌, Option, Some, None, Result, Ok, Err, refl, subst, ◌∙◌}
+use Rattle.std.proofs.Common.{◌≡◌, ◌≢◌, ℕ, Bool, true, false, if◌then◌else◌, List, [], ◌∷◌, Option, Some, None, Result, Ok, Err, refl, subst, ◌∙◌}
 use Rattle.std.specs.List.{AllByRecursion}
 use Rattle.base64.specs.GeneralPurpose.{IsBytes}
 use Rattle.dir_tree.specs.Entry.{EntryInformation}
@@ -8,6 +8,7 @@ use Rattle.dir_tree.proofs.TreeTheorems.{put_in-some}
 use Rattle.ldif_load.specs.ldif_records.declared.types.Record.{Record}
 use Rattle.ldif_load.specs.ldif_records.reading.Faults.{LineFault}
 use Rattle.ldif_load.specs.ldif_records.lines.Places.{records_from}
+use Rattle.aci_item.specs.declared.entry_rule.EntryRule.{EntryRule}
 use Rattle.aci_item.specs.Rules.{broken_rule, AreGood, IsGoodTree}
 use Rattle.ldif_load.proofs.schema_rules_proofs.Theorems.{AreGood-none, AreGood-put_in}
 use Rattle.ldif_load.specs.load.Loading.{RecordFault}
@@ -26,13 +27,9 @@ record IsFree (entries : List EntryInformation) (entry : EntryInformation) : Typ
   under : lacks_superior entry.name entries ≡ false
   unbroken : broken_rule None entries entry ≡ None
 
-no_fault : (test : Bool) (one other : RecordFault) (made : EntryInformation) (code : ℕ) → (if test then Err one else Err other) ≡ Ok made → Some code ≡ None
-no_fault true one other made code is = absurd cc
-no_fault false one other made code is = absurd cc
-
-ruled-unbroken : (line : ℕ) (entry made : EntryInformation) (broken : Option ℕ) → ruled line entry broken ≡ Ok made → broken ≡ None
+ruled-unbroken : (line : ℕ) (entry made : EntryInformation) (broken : Option EntryRule) → ruled line entry broken ≡ Ok made → broken ≡ None
 ruled-unbroken line entry made None is = refl
-ruled-unbroken line entry made (Some code) is = no_fault (code == 11) _ _ made code is
+ruled-unbroken line entry made (Some rule) is = absurd cc
 
 free_by :
     (entries : List EntryInformation) (line : ℕ) (entry made : EntryInformation) (there lacks : Bool) (one other : RecordFault)

@@ -1,5 +1,5 @@
 -- Each entry of a data file of octets that loads is loadable.
-use Rattle.std.proofs.Common.{◌≡◌, ℕ, ◌==◌, Bool, true, false, if◌then◌else◌, List, [], ◌∷◌, Option, Some, None, Result, Ok, Err, subst}
+use Rattle.std.proofs.Common.{◌≡◌, ℕ, Bool, true, false, if◌then◌else◌, List, [], ◌∷◌, Option, Some, None, Result, Ok, Err, subst}
 use Rattle.std.specs.List.{AllByRecursion}
 use Rattle.base64.specs.GeneralPurpose.{IsBytes}
 use Rattle.dir_tree.specs.Entry.{EntryInformation}
@@ -7,6 +7,7 @@ use Rattle.dir_tree.specs.tree.Trees.{is_before, has_name, lacks_superior, put_i
 use Rattle.ldif_load.specs.ldif_records.declared.types.Record.{Record}
 use Rattle.ldif_load.specs.ldif_records.reading.Faults.{LineFault}
 use Rattle.ldif_load.specs.ldif_records.lines.Places.{records_from}
+use Rattle.aci_item.specs.declared.entry_rule.EntryRule.{EntryRule}
 use Rattle.aci_item.specs.Rules.{broken_rule}
 use Rattle.ldif_load.specs.load.Loading.{RecordFault}
 use Rattle.ldif_load.specs.load.Loading.{entry_of_record, ruled, placed, loaded_entry}
@@ -18,15 +19,9 @@ use Rattle.data_file.proofs.laws.LoadableLemmas.{IsLoadable-entry_of_record}
 use Rattle.dir_tree.proofs.plain_values_proofs.Theorems.{both_given}
 
 -- an entry that is placed is as it was
-unless_fault :
-    (test : Bool) (one other : RecordFault) (entry made : EntryInformation)
-    → (if test then Err one else Err other) ≡ Ok made → entry ≡ made
-unless_fault true one other entry made is = absurd cc
-unless_fault false one other entry made is = absurd cc
-
-pub ruled-same : (line : ℕ) (entry made : EntryInformation) (broken : Option ℕ) → ruled line entry broken ≡ Ok made → entry ≡ made
+pub ruled-same : (line : ℕ) (entry made : EntryInformation) (broken : Option EntryRule) → ruled line entry broken ≡ Ok made → entry ≡ made
 ruled-same line entry made None is = cc
-ruled-same line entry made (Some code) is = unless_fault (code == 11) _ _ entry made is
+ruled-same line entry made (Some rule) is = absurd cc
 
 unless_refused :
     (there lacks : Bool) (one other : RecordFault) (entry made : EntryInformation) (last : Result EntryInformation RecordFault)

@@ -1,6 +1,6 @@
 -- A tree as a program knows it: its entries in their order, each with a number.
-use Rattle.std.specs.Prelude.{◌≢◌, ℕ, ◌<◌, ◌==◌, nat_le, not, List, [], ◌∷◌, length, take, map, filter, find, if◌then◌else◌, Option, Some, None}
-use Rattle.std.specs.Option.{option_map, option_and_then}
+use Rattle.std.specs.Prelude.{◌≢◌, ℕ, ◌<◌, ◌==◌, nat_le, Bool, false, not, List, [], ◌∷◌, length, take, map, filter, find, if◌then◌else◌, Option, Some, None}
+use Rattle.std.specs.Option.{option_map, option_map_or, option_and_then}
 use Rattle.std.specs.List.{AllByRecursion, filter_map}
 use Rattle.dn_names.specs.name.Names.{RdnSequence}
 use Rattle.dir_tree.specs.Entry.{EntryInformation}
@@ -31,6 +31,10 @@ find_front len name rows = if nat_le len (length name) then find_name (take len 
 -- the entry of the number
 abbrev pub entry_of : ℕ → List Numbered → Option EntryInformation
 entry_of id rows = option_map (λ row. row.entry) (find (λ row. row.id == id) rows)
+
+-- whether the number is that of an entry that has the name
+abbrev pub is_called : ℕ → RdnSequence → List Numbered → Bool
+is_called id name rows = option_map_or (is_named name) (entry_of id rows) false
 
 -- the entries of those of the numbers that are in use
 abbrev pub entries_at : List Numbered → List ℕ → List EntryInformation

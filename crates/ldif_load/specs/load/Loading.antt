@@ -1,6 +1,6 @@
 -- How a data record becomes an entry of the tree, or why it doesn't (RFC 2849, ldif-attrval-record): its lines in order,
 -- then the values of its own RDN, then its place. The first fault is the one that is found in this order.
-use Rattle.std.specs.Prelude.{◌≡◌, ℕ, ◌==◌, nat_le, if◌then◌else◌, List, [], ◌∷◌, length, Option, Some, None, Result, Ok, Err}
+use Rattle.std.specs.Prelude.{◌≡◌, ℕ, nat_le, if◌then◌else◌, List, [], ◌∷◌, length, Option, Some, None, Result, Ok, Err}
 pub use Rattle.dir_tree.specs.plain_values.Results.{◌>>=◌}
 use Rattle.dir_tree.specs.schema_tables.Attributes.{attr_of}
 use Rattle.dir_tree.specs.dn_names.declared.error.BadName.{BadName}
@@ -14,6 +14,8 @@ use Rattle.dir_tree.specs.tree.Trees.{has_name, lacks_superior}
 use Rattle.dir_tree.specs.tree.Numbered.{Numbered, entries_of, entry_of, put_entry}
 use Rattle.ldif_records.specs.declared.types.Record.{Record}
 use Rattle.ldif_records.specs.declared.types.RecordLine.{RecordLine}
+use Rattle.aci_item.specs.declared.entry_rule.EntryRule.{EntryRule}
+use Rattle.aci_item.specs.declared.entry_rule.EntryRule.TheVariants.{Limits}
 use Rattle.aci_item.specs.Rules.{broken_rule}
 use Rattle.ldif_load.specs.declared.fault.LoadCause.{LoadCause}
 use Rattle.ldif_load.specs.declared.fault.LoadCause.TheVariants.{Name, Kind, Value, Twice, Order, Rule, Limit}
@@ -73,10 +75,15 @@ unfoldable pub entry_of_record : Record → Result EntryInformation RecordFault
 entry_of_record given = named given.line (read_name given.name) >>= λ name. with_lines (record { name = name; attributes = [] }) given.lines >>= λ entry.
     Ok (with_own_values entry)
 
--- the entry, where it breaks no rule: what goes past a limit is told apart
-abbrev pub ruled : ℕ → EntryInformation → Option ℕ → Result EntryInformation RecordFault
+-- what is told of a broken rule: what goes past a limit is told apart
+abbrev pub cause_of : EntryRule → LoadCause
+cause_of Limits = Limit
+cause_of rule = Rule rule
+
+-- the entry, where it breaks no rule
+abbrev pub ruled : ℕ → EntryInformation → Option EntryRule → Result EntryInformation RecordFault
 ruled line entry None = Ok entry
-ruled line entry (Some code) = if code == 11 then Err (Bad line Limit) else Err (Bad line (Rule code))
+ruled line entry (Some rule) = Err (Bad line (cause_of rule))
 
 -- the entry, where it may join the entries
 unfoldable pub placed : List EntryInformation → ℕ → EntryInformation → Result EntryInformation RecordFault

@@ -16,6 +16,7 @@ use Rattle.session_hub.specs.session_model.ldap_msg.declared.kinds.ModifyRequest
 use Rattle.session_hub.specs.session_model.ldap_msg.declared.kinds.RenameRequest.{RenameRequest}
 use Rattle.session_hub.specs.session_model.ldap_msg.declared.kinds.Request.{Request}
 use Rattle.session_hub.specs.session_model.ldap_msg.declared.kinds.Request.TheVariants as request
+use Rattle.session_hub.specs.session_model.ldap_msg.declared.kinds.Update.TheVariants as update
 use Rattle.entry_changes.specs.Renaming.{renamed_entry}
 use Rattle.entry_changes.proofs.Theorems.{name-renamed_entry}
 use Rattle.change_laws.specs.op_add_delete.reading.NewEntries.{new_entry}
@@ -173,18 +174,13 @@ module _
   where
     pub outcome-loadable : (entries : List EntryInformation) (who : Requester) (asked : Request) → IsOfOctets asked → IsLoadableTree entries
         → IsLoadableTree (left_by entries (outcome entries who asked))
-    outcome-loadable entries who (request.Bind bind) bytes is = is
-    outcome-loadable entries who request.Unbind bytes is = is
-    outcome-loadable entries who (request.Search search) bytes is = is
-    outcome-loadable entries who (request.Modify modify) bytes is =
+    outcome-loadable entries who (request.Update (update.Modify modify)) bytes is =
         tree-loadable (left_by entries (modified entries who modify)) (good_modified entries who modify is.good) (modifies entries who modify bytes.1 (values-loadable entries is))
-    outcome-loadable entries who (request.Add add) bytes is =
+    outcome-loadable entries who (request.Update (update.Add add)) bytes is =
         tree-loadable (left_by entries (added entries who add)) (good_added entries who add is.good) (adds entries who add bytes.1 (values-loadable entries is))
-    outcome-loadable entries who (request.Delete delete) bytes is =
+    outcome-loadable entries who (request.Update (update.Delete delete)) bytes is =
         tree-loadable (left_by entries (deleted entries who delete)) (good_deleted entries who delete is.good) (deletes entries who delete (values-loadable entries is))
-    outcome-loadable entries who (request.Rename rename) bytes is =
+    outcome-loadable entries who (request.Update (update.Rename rename)) bytes is =
         tree-loadable (left_by entries (renamed entries who rename)) (good_renamed entries who rename is.good)
         (renames entries who rename (good_renamed entries who rename is.good) (values-loadable entries is))
-    outcome-loadable entries who (request.Compare compare) bytes is = is
-    outcome-loadable entries who (request.Abandon id) bytes is = is
-    outcome-loadable entries who (request.Extended name value) bytes is = is
+    outcome-loadable entries who other bytes is = is

@@ -10,6 +10,7 @@ use Rattle.session_hub.specs.session_model.ber_layout.Layouts.Layout.{AnyOctets,
 use Rattle.session_hub.specs.session_model.ldap_msg.declared.kinds.Message.{Message}
 use Rattle.session_hub.specs.session_model.ldap_msg.declared.kinds.Request.{Request}
 use Rattle.session_hub.specs.session_model.ldap_msg.declared.kinds.Request.TheVariants as request
+use Rattle.session_hub.specs.session_model.ldap_msg.declared.kinds.Update.TheVariants as update
 use Rattle.session_hub.specs.session_model.ldap_msg.Attributes.{attribute_layout, attribute_from, change_layout, change_from}
 use Rattle.session_hub.specs.session_model.ldap_msg.Kinds.{modify_layout, modify_from, add_layout, add_from, rename_layout, rename_parts}
 use Rattle.session_hub.specs.session_model.ldap_msg.reading.Contents.{SaysContent}
@@ -119,24 +120,19 @@ superior-octets None all = tt
 superior-octets (Some octets) all = IsBytes-from_AreOctets octets all
 
 content-octets : (asked : Request) (content : List ℕ) → SaysContent asked content → AreOctets content → IsOfOctets asked
-content-octets (request.Bind bind) content says all = tt
-content-octets request.Unbind content says all = tt
-content-octets (request.Search search) content says all = tt
-content-octets (request.Modify modify) content says all =
+content-octets (request.Update (update.Modify modify)) content says all =
     let parts = says_all IsOctet modify_layout says.parts content says.says all in
-    let is : IsOfOctets (request.Modify (modify_from says.parts)) = (IsBytes-from_AreOctets says.parts.0 parts.0, changes-octets says.parts.1.0.0 parts.1.0.0) in
-    subst (λ modify. IsOfOctets (request.Modify modify)) says.is is
-content-octets (request.Add add) content says all =
+    let is : IsOfOctets (request.Update (update.Modify (modify_from says.parts))) = (IsBytes-from_AreOctets says.parts.0 parts.0, changes-octets says.parts.1.0.0 parts.1.0.0) in
+    subst (λ modify. IsOfOctets (request.Update (update.Modify modify))) says.is is
+content-octets (request.Update (update.Add add)) content says all =
     let parts = says_all IsOctet add_layout says.parts content says.says all in
-    let is : IsOfOctets (request.Add (add_from says.parts)) = (IsBytes-from_AreOctets says.parts.0 parts.0, given-octets says.parts.1.0.0 parts.1.0.0) in
-    subst (λ add. IsOfOctets (request.Add add)) says.is is
-content-octets (request.Delete delete) content says all = IsBytes-from_AreOctets delete.name (subst AreOctets (sym says) all)
-content-octets (request.Rename rename) content says all =
+    let is : IsOfOctets (request.Update (update.Add (add_from says.parts))) = (IsBytes-from_AreOctets says.parts.0 parts.0, given-octets says.parts.1.0.0 parts.1.0.0) in
+    subst (λ add. IsOfOctets (request.Update (update.Add add))) says.is is
+content-octets (request.Update (update.Delete delete)) content says all = IsBytes-from_AreOctets delete.name (subst AreOctets (sym says) all)
+content-octets (request.Update (update.Rename rename)) content says all =
     let parts = says_all IsOctet rename_layout (rename_parts rename) content says all in
     (IsBytes-from_AreOctets rename.name parts.0, IsBytes-from_AreOctets rename.new_rdn parts.1.0, superior-octets rename.superior parts.1.1.1.0)
-content-octets (request.Compare compare) content says all = tt
-content-octets (request.Abandon id) content says all = tt
-content-octets (request.Extended name value) content says all = tt
+content-octets other content says all = tt
 
 pub message-octets : (bytes : List ℕ) (message : Message) → AreOctets bytes → message_of bytes ≡ Some message → IsOfOctets message.request
 message-octets bytes message all read =

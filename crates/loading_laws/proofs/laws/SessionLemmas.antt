@@ -5,6 +5,7 @@ use Rattle.session_hub.specs.session_model.ldap_msg.declared.kinds.Control.{Cont
 use Rattle.session_hub.specs.session_model.ldap_msg.declared.kinds.Message.{Message}
 use Rattle.session_hub.specs.session_model.ldap_msg.declared.kinds.Request.{Request}
 use Rattle.session_hub.specs.session_model.ldap_msg.declared.kinds.Request.TheVariants as request
+use Rattle.session_hub.specs.session_model.ldap_msg.declared.kinds.Update.TheVariants as update
 use Rattle.session_hub.specs.session_model.ldap_msg.reading.Messages.{message_of}
 use Rattle.change_laws.specs.op_add_delete.adding.Updates.{left_by}
 use Rattle.change_replay.specs.Accepted.{outcome}
@@ -24,16 +25,8 @@ use Rattle.loading_laws.proofs.laws.LayoutLemmas.{message-octets}
 
 -- what is true of octets is true of a request of octets that is limited
 limited-octets : (limit : ℕ) (asked : Request) → IsOfOctets asked → IsOfOctets (limited_request limit asked)
-limited-octets limit (request.Bind bind) bytes = tt
-limited-octets limit request.Unbind bytes = tt
-limited-octets limit (request.Search search) bytes = tt
-limited-octets limit (request.Modify modify) bytes = bytes
-limited-octets limit (request.Add add) bytes = bytes
-limited-octets limit (request.Delete delete) bytes = bytes
-limited-octets limit (request.Rename rename) bytes = bytes
-limited-octets limit (request.Compare compare) bytes = tt
-limited-octets limit (request.Abandon id) bytes = tt
-limited-octets limit (request.Extended name value) bytes = tt
+limited-octets limit (request.Update change) bytes = bytes
+limited-octets limit other bytes = tt
 
 -- of two operations one is done
 one_loadable : (first : Bool) (one other : Operated) → IsLoadableTree one.entries → IsLoadableTree other.entries → IsLoadableTree (if first then one else other).entries
@@ -67,16 +60,11 @@ module _
   where
     operated-loadable : (entries : DirectoryEntries) (who : Requester) (controls : List Control) (asked : Request) → IsOfOctets asked → IsLoadableTree entries
         → IsLoadableTree (operated entries who controls asked).entries
-    operated-loadable entries who controls (request.Bind bind) bytes is = is
-    operated-loadable entries who controls request.Unbind bytes is = is
-    operated-loadable entries who controls (request.Search search) bytes is = is
-    operated-loadable entries who controls (request.Modify modify) bytes is = stays entries who (request.Modify modify) bytes is
-    operated-loadable entries who controls (request.Add add) bytes is = stays entries who (request.Add add) bytes is
-    operated-loadable entries who controls (request.Delete delete) bytes is = stays entries who (request.Delete delete) bytes is
-    operated-loadable entries who controls (request.Rename rename) bytes is = stays entries who (request.Rename rename) bytes is
-    operated-loadable entries who controls (request.Compare compare) bytes is = is
-    operated-loadable entries who controls (request.Abandon id) bytes is = is
-    operated-loadable entries who controls (request.Extended name value) bytes is = is
+    operated-loadable entries who controls (request.Update (update.Modify modify)) bytes is = stays entries who (request.Update (update.Modify modify)) bytes is
+    operated-loadable entries who controls (request.Update (update.Add add)) bytes is = stays entries who (request.Update (update.Add add)) bytes is
+    operated-loadable entries who controls (request.Update (update.Delete delete)) bytes is = stays entries who (request.Update (update.Delete delete)) bytes is
+    operated-loadable entries who controls (request.Update (update.Rename rename)) bytes is = stays entries who (request.Update (update.Rename rename)) bytes is
+    operated-loadable entries who controls other bytes is = is
 
     answered-loadable : (entries : DirectoryEntries) (who : Requester) (controls : List Control) (asked : Request) → IsOfOctets asked → IsLoadableTree entries
         → IsLoadableTree (answered entries who controls asked).entries

@@ -1,15 +1,16 @@
 -- Tables of refusals in which nothing refuses, and the changes that they decide.
-use Rattle.std.proofs.Common.{◌≡◌, ℕ, List, Option, Some, None, refl}
+use Rattle.std.proofs.Common.{◌≡◌, List, Option, Some, None, refl}
 use Rattle.dir_tree.specs.Entry.{EntryInformation}
+use Rattle.acdf_filters.specs.aci_item.declared.entry_rule.EntryRule.{EntryRule}
 use Rattle.acdf_filters.specs.aci_item.Rules.{IsGoodTree}
 use Rattle.ldap_msg.specs.declared.kinds.LdapResult.{LdapResult}
 use Rattle.op_add_delete.specs.adding.Adding.{rule_refusal}
 use Rattle.op_add_delete.specs.adding.Updates.{Made, unless, left_by}
 
 -- no rule is broken where none refuses
-pub not_broken : (broken : Option ℕ) → rule_refusal broken ≡ None → broken ≡ None
+pub not_broken : (broken : Option EntryRule) → rule_refusal broken ≡ None → broken ≡ None
 not_broken None is = refl
-not_broken (Some number) is = absurd cc
+not_broken (Some rule) is = absurd cc
 
 -- a change that may be refused leaves a good tree, where it does if it is made
 pub unless-good :

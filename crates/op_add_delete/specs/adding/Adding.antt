@@ -1,12 +1,13 @@
 -- Why an entry is not added (RFC 4511 4.7, X.511 11.1): a table by rows, of which the first that applies decides. Each
 -- decision is taken over the entries without the new one. That a refused permission is told even where the entry could
 -- not be known of is this profile's choice.
-use Rattle.std.specs.Prelude.{ℕ, Bool, not, ◌||◌, List, [], ◌∷◌, Option, Some, None, if◌then◌else◌}
+use Rattle.std.specs.Prelude.{Bool, not, ◌||◌, List, [], ◌∷◌, Option, Some, None, if◌then◌else◌}
 use Rattle.std.specs.List.{list_any}
 use Rattle.dir_tree.specs.dn_names.name.Names.{RdnSequence}
 use Rattle.dir_tree.specs.Entry.{Attribute, EntryInformation}
 use Rattle.dir_tree.specs.tree.Trees.{named_in, has_name, superior_name}
 use Rattle.acdf_filters.specs.aci_item.Rules.{broken_rule}
+use Rattle.acdf_filters.specs.aci_item.declared.entry_rule.EntryRule.{EntryRule}
 use Rattle.acdf_filters.specs.aci_item.declared.permission.Permission.{Permission}
 use Rattle.acdf_filters.specs.aci_item.declared.permission.Permission.TheVariants.{Add, DiscloseOnError}
 use Rattle.acdf_filters.specs.declared.asking.Requester.{Requester}
@@ -16,6 +17,7 @@ use Rattle.ldap_msg.specs.declared.operations.ResultCode.TheVariants as code
 use Rattle.ldap_msg.specs.declared.kinds.LdapResult.{LdapResult}
 use Rattle.read_model.specs.Views.{view_of, no_such_object, result_of}
 use Rattle.ldap_msg.specs.plain_values.Refusals.{when, first_some}
+use Rattle.op_add_delete.specs.RuleCodes.{rule_code}
 
 -- what is answered where another entry has the name: as where there is none, if it may neither be known of nor be added
 abbrev pub there_already : List EntryInformation → Requester → RdnSequence → EntryInformation → LdapResult
@@ -38,10 +40,10 @@ refuses_attribute allows attribute =
 unfoldable pub refuses_entry : (Protected → Permission → Bool) → EntryInformation → Bool
 refuses_entry allows entry = not (allows Entry Add) || list_any (refuses_attribute allows) entry.attributes
 
--- a rule is broken, with this code, if one is
-abbrev pub rule_refusal : Option ℕ → Option LdapResult
+-- a rule is broken, if one is
+abbrev pub rule_refusal : Option EntryRule → Option LdapResult
 rule_refusal None = None
-rule_refusal (Some number) = Some (record { code = number; matched = [] })
+rule_refusal (Some rule) = Some (result_of (rule_code rule))
 
 -- the table, over the new entry and its name
 abbrev pub add_rows : List EntryInformation → Requester → RdnSequence → EntryInformation → List (Option LdapResult)

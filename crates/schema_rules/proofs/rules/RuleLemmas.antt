@@ -19,8 +19,8 @@ pub Meets-from_broken_rule :
     → broken_rule old others entry ≡ None → Meets old others entry
 unfolding broken_rule
 Meets-from_broken_rule old others entry none =
-    let all = none_found (λ (rule : Rule). rule.breaks old others entry) rules
-    (nothing (λ (rule : Rule). rule.code) (find (λ (rule : Rule). rule.breaks old others entry) rules) none) in
+    let all = none_found (λ (row : Rule). row.breaks old others entry) rules
+    (nothing (λ (row : Rule). row.rule) (find (λ (row : Rule). row.breaks old others entry) rules) none) in
     record {
       own_values = all.0;
       structural = all.1.0;
@@ -36,7 +36,7 @@ pub broken_rule-from_Meets :
     → Meets old others entry → broken_rule old others entry ≡ None
 unfolding broken_rule
 broken_rule-from_Meets old others entry meets =
-    ap (option_map (λ (rule : Rule). rule.code)) (nothing_found (λ (rule : Rule). rule.breaks old others entry) rules
+    ap (option_map (λ (row : Rule). row.rule)) (nothing_found (λ (row : Rule). row.breaks old others entry) rules
     (meets.own_values, (meets.structural, (meets.classes, (meets.syntaxes, (meets.single, (meets.placed, (meets.limits, tt))))))))
 
 -- an entry that is not the superior changes nothing of it

@@ -13,7 +13,7 @@ returns-clause-kept c =
     record {
       held = done.held;
       indexed =
-          subst (λ (rows : List Numbered). IsIndexed c.forget.new.self rows) (sym done.ok)
+          subst (λ (rows : List Numbered). IsIndexed c.forget.new.self rows) (sym done.exact.0.left)
           (indexed-without c.args.index.now c.forget.new.self number c.args.tree.now c.requires.kept.indexed
           (IsDropped-others number (hashes_of c.in_ok-entry.entry) [] c.args.index.now c.forget.new.self c.forget.ensures.exact));
     }

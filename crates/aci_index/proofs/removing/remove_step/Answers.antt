@@ -15,9 +15,9 @@ returns-clause-held c =
     let done = c.in_ok-entry.ensures in
     let made = c.drop_kept.new.held in
     let tree = c.entries_form_a_tree.ensures.exact in
-    let also = subst IsNumberedTree done.ok c.entries_form_a_tree-2.ensures.exact in
-    subst (λ (left : List Numbered). IsHeld made left) (sym done.ok)
+    let also = subst IsNumberedTree done.exact.0.left c.entries_form_a_tree-2.ensures.exact in
+    subst (λ (left : List Numbered). IsHeld made left) (sym done.exact.0.left)
     (elim (cases_Bool (is_access_subentry entry)) [
-      | inl e ↦ held-forgotten number entry rows c.args.held.now made tree done.found done.exact c.requires.held (c.drop_kept.ensures.subentry e)
-      | inr e ↦ held-taken number entry rows c.args.held.now made tree also done.found done.exact e c.requires.held (c.drop_kept.ensures.ordinary e)
+      | inl e ↦ held-forgotten number entry rows c.args.held.now made tree done.exact.0.found done.exact.1 c.requires.held (c.drop_kept.ensures.subentry e)
+      | inr e ↦ held-taken number entry rows c.args.held.now made tree also done.exact.0.found done.exact.1 e c.requires.held (c.drop_kept.ensures.ordinary e)
     ])

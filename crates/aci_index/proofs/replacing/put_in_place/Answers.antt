@@ -10,13 +10,13 @@ use Rattle.aci_index.proofs.replacing.put_in_place.Goals as goal
 
 pub returns-clause-held : goal.returns-clause-held
 returns-clause-held c =
-    let number = c.args.number.0 in
+    let number = c.args.successor.number.0 in
     let rows = c.args.tree.now in
-    let entry = c.args.entry in
+    let entry = c.args.successor.entry in
     let done = c.in_ok-old.ensures in
-    let own = sym (ap (λ o. option_map_or (λ old. is_own_change old entry) o false) done.found) ∙ c.requires.own in
-    let also = subst IsNumberedTree done.ok c.entries_form_a_tree-2.ensures.exact in
+    let own = sym (ap (λ o. option_map_or (λ old. is_own_change old entry) o false) done.exact.0.found) ∙ c.requires.own in
+    let also = subst IsNumberedTree done.exact.0.left c.entries_form_a_tree-2.ensures.exact in
     let made = c.put_own.new.held in
-    subst (λ (new : List Numbered). IsHeld made new) (sym done.ok)
-    (held-own number c.in_ok-old.old entry rows c.args.held.now made c.entries_form_a_tree.ensures.exact also done.found own c.requires.held
+    subst (λ (new : List Numbered). IsHeld made new) (sym done.exact.0.left)
+    (held-own number c.in_ok-old.old entry rows c.args.held.now made c.entries_form_a_tree.ensures.exact also done.exact.0.found own c.requires.held
     c.put_own.ensures.others (subst (AreOf rows entry) (sym c.put_own.ensures.own) c.requires.lists))

@@ -1,7 +1,6 @@
 -- The superior is an entry or not.
 use Rattle.std.proofs.Common.{◌∙◌, sym}
 use Rattle.dir_tree.specs.tree.Numbered.{entries_of}
-use Rattle.change_replay.proofs.fault.FaultSteps.{refused-as}
 use Rattle.change_replay.proofs.renames.RenameSteps.{below-known, become-nowhere, become-under}
 use Rattle.change_replay.proofs.renames.become_renamed.Goals as goal
 
@@ -21,6 +20,6 @@ returns-in-None c =
     let entries = entries_of c.args.tree.now in
     let alone = below-known entries c.args.target.entry.now _ c.has_below.result c.has_below.ensures.exact c.requires.found c.if-has_below.false in
     record {
-      exact = refused-as c.refusal-in-None.result _ _ c.refusal-in-None.ensures
-          (become-nowhere entries c.args.renaming.now c.args.target.entry.now (sym c.is_unmovable.ensures.exact ∙ c.if-is_unmovable.false) alone c.in-None.ensures.exact);
+      exact = become-nowhere entries c.args.renaming.now c.args.target.entry.now
+          (sym c.is_unmovable.ensures.exact ∙ c.if-is_unmovable.false) alone c.in-None.ensures.exact;
     }

@@ -32,6 +32,6 @@ returns-clause-ok c = record {
   id = c.in_ok-insert_at.field-0.0;
   entry = c.in_ok-entry.entry;
   loaded = loaded-placed (entries_of c.args.tree.now) c.args.given c.in_ok-entry.entry c.in_ok-entry.ensures.exact ∙ c.in_ok-vacancy.ensures.ok;
-  free = c.in_ok-insert_at.ensures.free;
-  added = c.in_ok-insert_at.ensures.ok;
+  free = c.in_ok-insert_at.ensures.exact.free;
+  added = c.in_ok-insert_at.ensures.exact.left;
 }

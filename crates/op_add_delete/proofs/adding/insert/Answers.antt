@@ -6,4 +6,4 @@ use Rattle.op_add_delete.proofs.adding.insert.Goals as goal
 
 pub returns-in-Ok-clause-ok : goal.returns-in-Ok-clause-ok
 returns-in-Ok-clause-ok g c =
-    ap entries_of c.in-Ok.ensures.ok ∙ entries_of-put_row (record { id = c.in-Ok._number.0; entry = c.args.entry }) (g.D.Dir.rows c.args.dir.now)
+    ap entries_of c.in-Ok.ensures.exact.0.left ∙ entries_of-put_row (record { id = c.in-Ok._number.0; entry = c.args.entry }) (g.D.Dir.rows c.args.dir.now)

@@ -10,20 +10,18 @@ use Rattle.op_modify.specs.Modifying.{asker_of, modified_as}
 use Rattle.op_modify.specs.Steps.{IsChecked}
 use Rattle.op_modify.proofs.modifying.check_changes.Goals as goal
 
-pub returns-in-Ok : goal.returns-in-Ok
-returns-in-Ok g c =
+pub returns-in-Ok-clause-ok : goal.returns-in-Ok-clause-ok
+returns-in-Ok-clause-ok g c =
     let target = c.args.target.now in
     let rows = g.D.Dir.rows target.asking.now.dir.now in
-    record {
-      ok = IfOk-weaker c.check_left.result _ _
-          (λ checked is. subst (λ (left : Result EntryInformation ResultCode). IsChecked (modified_as (entries_of rows) target.entry.now left) rows checked) (sym c.in-Ok.ensures.exact) is)
-          c.check_left.ensures.ok;
-    }
+    IfOk-weaker c.check_left.result _ _
+    (λ checked is. subst (λ (left : Result EntryInformation ResultCode). IsChecked (modified_as (entries_of rows) target.entry.now left) rows checked) (sym c.in-Ok.ensures.exact) is)
+    c.check_left.ensures.ok
 
-pub returns-in-Err-Refused : goal.returns-in-Err-Refused
-returns-in-Err-Refused g c =
+pub returns-in-Err-Refused-clause-ok : goal.returns-in-Err-Refused-clause-ok
+returns-in-Err-Refused-clause-ok g c =
     let target = c.args.target.now in
     let rows = g.D.Dir.rows target.asking.now.dir.now in
     let told : changed_by (asker_of (entries_of rows) target.asking.now.who.now target.entry.now) target.entry.now c.args.changes.items ≡ Err c.in-Err-Refused.code =
     rw c.in-Err-Refused.field-0-is at c.in-Err-Refused.ensures.exact in
-    record { ok = ap (modified_as (entries_of rows) target.entry.now) told ∙ ap Refused (sym c.result_of.ensures.exact) }
+    ap (modified_as (entries_of rows) target.entry.now) told ∙ ap Refused (sym c.result_of.ensures.exact)

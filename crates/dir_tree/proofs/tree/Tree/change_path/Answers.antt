@@ -25,8 +25,10 @@ changed c =
 pub invariant_of-self-2 : goal.invariant_of-self-2
 invariant_of-self-2 c = rw (c.replace_entry-old.ensures.exact, c.remove-number.ensures.entries, c.in_ok-insert.ensures.entries) (changed c).mapped
 
-pub returns-clause-found : goal.returns-clause-found
-returns-clause-found c = (changed c).known
-
-pub returns-clause-ok : goal.returns-clause-ok
-returns-clause-ok c = rw (c.replace_entry-old.ensures.exact, c.remove-number.ensures.entries, c.in_ok-insert.ensures.entries) (changed c).shown
+pub returns : goal.returns
+returns c = record {
+  exact = record {
+    found = (changed c).known;
+    left = rw (c.replace_entry-old.ensures.exact, c.remove-number.ensures.entries, c.in_ok-insert.ensures.entries) (changed c).shown;
+  };
+}

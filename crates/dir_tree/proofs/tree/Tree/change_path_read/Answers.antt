@@ -36,11 +36,11 @@ invariant_of-self-in-Ok-1 g c = rw (c.replace_entry-old.ensures.exact, c.replace
 pub invariant_of-self-in-Err : goal.invariant_of-self-in-Err
 invariant_of-self-in-Err g c = rw (c.replace_entry-new.ensures.exact, c.replace_entry-old.ensures.exact, set_back c.self.inside.slots.items c.args.no.0 c.replace_entry-old.result (Some c.args.entry) c.replace_entry-old.ensures.found, c.replace-places.ensures.value, c.replace-numbers.ensures.value) c.self.invariant
 
-pub returns-in-Ok-clause-found : goal.returns-in-Ok-clause-found
-returns-in-Ok-clause-found g c = (changed g (goal.at.returns-in-Ok-clause-found g c).After-remove-number).known
+pub returns-in-Ok-clause-exact : goal.returns-in-Ok-clause-exact
+returns-in-Ok-clause-exact g c = record {
+  found = (changed g (goal.at.returns-in-Ok-clause-exact g c).After-remove-number).known;
+  left = rw (c.replace_entry-old.ensures.exact, c.replace-places.ensures.after, c.remove-number.ensures.entries, c.in_ok-insert.ensures.entries) (changed g (goal.at.returns-in-Ok-clause-exact g c).After-remove-number).shown;
+}
 
-pub returns-in-Ok-clause-ok : goal.returns-in-Ok-clause-ok
-returns-in-Ok-clause-ok g c = rw (c.replace_entry-old.ensures.exact, c.replace-places.ensures.after, c.remove-number.ensures.entries, c.in_ok-insert.ensures.entries) (changed g (goal.at.returns-in-Ok-clause-ok g c).After-remove-number).shown
-
-pub returns-in-Err-clause-kept : goal.returns-in-Err-clause-kept
-returns-in-Err-clause-kept g c = rw (c.replace_entry-new.ensures.exact, c.replace_entry-old.ensures.exact, set_back c.self.inside.slots.items c.args.no.0 c.replace_entry-old.result (Some c.args.entry) c.replace_entry-old.ensures.found, c.replace-places.ensures.value) c.self.view_is
+pub returns-in-Err-clause-exact : goal.returns-in-Err-clause-exact
+returns-in-Err-clause-exact g c = rw (c.replace_entry-new.ensures.exact, c.replace_entry-old.ensures.exact, set_back c.self.inside.slots.items c.args.no.0 c.replace_entry-old.result (Some c.args.entry) c.replace_entry-old.ensures.found, c.replace-places.ensures.value) c.self.view_is

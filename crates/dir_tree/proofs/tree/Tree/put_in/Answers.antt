@@ -78,8 +78,8 @@ invariant_of-self-2 c =
     ∙ ap (λ (rows : List Numbered). ids_of (subentry_rows rows)) (ap (put_row (record { id = id; entry = c.args.entry })) (same ∙ c.self.view_is) ∙ sym (put c).put.shown) in
     rw (c.fill_slot.ensures.exact, c.in_ok-insert.ensures.entries) (record { kept = (put c).put.kept; keyed = (put c).keyed; listed = listed })
 
-pub returns-clause-ok : goal.returns-clause-ok
-returns-clause-ok c = rw (c.fill_slot.ensures.exact, c.in_ok-insert.ensures.entries) (put c).put.shown
-
-pub returns-clause-free : goal.returns-clause-free
-returns-clause-free c = (put c).put.free
+pub returns-clause-exact : goal.returns-clause-exact
+returns-clause-exact c = record {
+  free = (put c).put.free;
+  left = rw (c.fill_slot.ensures.exact, c.in_ok-insert.ensures.entries) (put c).put.shown;
+}

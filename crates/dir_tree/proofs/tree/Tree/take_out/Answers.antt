@@ -44,8 +44,10 @@ invariant_of-self c =
           ∙ sym (ap (λ (rows : List Numbered). ids_of (subentry_rows rows)) (taken c).shown);
     })
 
-pub returns-clause-found : goal.returns-clause-found
-returns-clause-found c = rw (← c.self.view_is) (known c)
-
-pub returns-clause-exact : goal.returns-clause-exact
-returns-clause-exact c = rw (c.take_entry-entry.ensures.exact, c.remove-number.ensures.entries, ← c.self.view_is) (taken c).shown
+pub returns : goal.returns
+returns c = record {
+  exact = record {
+    found = rw (← c.self.view_is) (known c);
+    left = rw (c.take_entry-entry.ensures.exact, c.remove-number.ensures.entries, ← c.self.view_is) (taken c).shown;
+  };
+}

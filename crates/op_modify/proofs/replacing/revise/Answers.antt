@@ -1,0 +1,13 @@
+-- The entries change as the rows do.
+use Rattle.std.proofs.Common.{ap, subst, ◌∙◌}
+use Rattle.dir_tree.specs.tree.Trees.{put_in}
+use Rattle.dir_tree.specs.tree.Numbered.{IsNumberedTree, entries_of, without}
+use Rattle.dir_tree.proofs.TreeTheorems.{entries_of-put_row, entries_of-without}
+use Rattle.op_modify.proofs.replacing.revise.Goals as goal
+
+pub returns-clause-ok : goal.returns-clause-ok
+returns-clause-ok g c = λ target known.
+    let rows = g.D.Dir.rows c.args.dir.now in
+    ap entries_of c.in_ok-_old.ensures.exact.left
+    ∙ entries_of-put_row (record { id = c.args.number.0; entry = c.args.entry }) (without c.args.number.0 rows)
+    ∙ ap (put_in c.args.entry) (entries_of-without c.args.number.0 target rows (subst IsNumberedTree c.tree.ensures.exact c.entries_form_a_tree.ensures.exact) known)
