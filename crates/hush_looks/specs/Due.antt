@@ -3,7 +3,6 @@ use Rattle.std.specs.Prelude.{ℕ, Bool, true, false, ◌&&◌, ◌||◌, List}
 use Rattle.std.specs.Option.{option_map_or}
 use Rattle.session_hub.specs.session_model.ldap_msg.declared.kinds.Request.{Request}
 use Rattle.session_hub.specs.session_model.ldap_msg.declared.kinds.Request.TheVariants as request
-use Rattle.session_hub.specs.session_model.ldap_msg.declared.kinds.Update.TheVariants as update
 use Rattle.session_hub.specs.session_model.ldap_msg.reading.Messages.{message_of}
 use Rattle.hush_laws.specs.Requests.{is_change}
 
@@ -12,10 +11,7 @@ abbrev pub is_bind : Request → Bool
 is_bind (request.Bind bind) = true
 is_bind request.Unbind = false
 is_bind (request.Search search) = false
-is_bind (request.Update (update.Modify modify)) = false
-is_bind (request.Update (update.Add add)) = false
-is_bind (request.Update (update.Delete delete)) = false
-is_bind (request.Update (update.Rename rename)) = false
+is_bind (request.Update update) = false
 is_bind (request.Compare compare) = false
 is_bind (request.Abandon id) = false
 is_bind (request.Extended name value) = false

@@ -11,6 +11,7 @@ use Rattle.ber_elements.proofs.Theorems.{element_again}
 use Rattle.ldap_msg.specs.declared.kinds.Message.{Message}
 use Rattle.ldap_msg.specs.declared.kinds.Request.{Request}
 use Rattle.ldap_msg.specs.declared.kinds.Request.TheVariants as request
+use Rattle.ldap_msg.specs.declared.kinds.Update.TheVariants as update
 use Rattle.ldap_msg.specs.declared.kinds.SearchScope.TheVariants.{BaseObject}
 use Rattle.ldap_msg.specs.declared.kinds.SearchRequest.{SearchRequest}
 use Rattle.ldap_msg.specs.operations.Operations.{request_tag}
@@ -160,6 +161,10 @@ search_wide message search octets says is_search other =
 
 only_search : (r : Request) → (request_tag (operation_for r) == 0x63) ≡ true → (search : SearchRequest) × (r ≡ request.Search search)
 only_search (request.Search search) e = (search, refl)
+only_search (request.Update (update.Modify modify)) e = absurd cc
+only_search (request.Update (update.Add add)) e = absurd cc
+only_search (request.Update (update.Delete delete)) e = absurd cc
+only_search (request.Update (update.Rename rename)) e = absurd cc
 only_search r e = absurd cc
 
 pub wide_search : (message : Message) (octets : List ℕ) → Says message octets → is_wide octets ≡ true → (search : SearchRequest) × (message.request ≡ request.Search search)

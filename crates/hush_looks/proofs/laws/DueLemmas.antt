@@ -7,7 +7,6 @@ use Rattle.session_hub.specs.session_model.ldap_msg.declared.kinds.Control.{Cont
 use Rattle.session_hub.specs.session_model.ldap_msg.declared.kinds.Message.{Message}
 use Rattle.session_hub.specs.session_model.ldap_msg.declared.kinds.Request.{Request}
 use Rattle.session_hub.specs.session_model.ldap_msg.declared.kinds.Request.TheVariants as request
-use Rattle.session_hub.specs.session_model.ldap_msg.declared.kinds.Update.TheVariants as update
 use Rattle.session_hub.specs.session_model.ldap_msg.reading.Messages.{message_of}
 use Rattle.session_hub.specs.Parties.{DirectoryEntries, Requester}
 use Rattle.session_hub.specs.declared.bounds.Terms.{Terms}
@@ -37,10 +36,7 @@ asked-tree limit own tree who controls request.Unbind none =
 asked-tree limit own tree who controls (request.Search search) none =
     let now = request.Search (limited limit search) in
     either_tree (is_refused now controls) (refused tree who now) (operated tree who controls now) tree refl refl
-asked-tree limit own tree who controls (request.Update (update.Modify modify)) none = absurd cc
-asked-tree limit own tree who controls (request.Update (update.Add add)) none = absurd cc
-asked-tree limit own tree who controls (request.Update (update.Delete delete)) none = absurd cc
-asked-tree limit own tree who controls (request.Update (update.Rename rename)) none = absurd cc
+asked-tree limit own tree who controls (request.Update update) none = absurd cc
 asked-tree limit own tree who controls (request.Compare compare) none =
     let now = request.Compare compare in
     either_tree (is_refused now controls) (refused tree who now) (operated tree who controls now) tree refl refl
@@ -60,10 +56,7 @@ asked-who limit tree who controls request.Unbind none =
 asked-who limit tree who controls (request.Search search) none =
     let now = request.Search (limited limit search) in
     either_who (is_refused now controls) (refused tree who now) (operated tree who controls now) who refl refl
-asked-who limit tree who controls (request.Update (update.Modify modify)) none = absurd cc
-asked-who limit tree who controls (request.Update (update.Add add)) none = absurd cc
-asked-who limit tree who controls (request.Update (update.Delete delete)) none = absurd cc
-asked-who limit tree who controls (request.Update (update.Rename rename)) none = absurd cc
+asked-who limit tree who controls (request.Update update) none = absurd cc
 asked-who limit tree who controls (request.Compare compare) none =
     let now = request.Compare compare in
     either_who (is_refused now controls) (refused tree who now) (operated tree who controls now) who refl refl
@@ -79,10 +72,7 @@ asked-none : (top : RdnSequence) (asked : Request) â†’ is_due_asked true asked â
 asked-none top (request.Bind bind) none = absurd cc
 asked-none top request.Unbind none = refl
 asked-none top (request.Search search) none = refl
-asked-none top (request.Update (update.Modify modify)) none = absurd cc
-asked-none top (request.Update (update.Add add)) none = absurd cc
-asked-none top (request.Update (update.Delete delete)) none = absurd cc
-asked-none top (request.Update (update.Rename rename)) none = absurd cc
+asked-none top (request.Update update) none = absurd cc
 asked-none top (request.Compare compare) none = refl
 asked-none top (request.Abandon id) none = refl
 asked-none top (request.Extended name value) none = refl
