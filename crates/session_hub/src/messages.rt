@@ -196,7 +196,6 @@ fn put_compare<D: Dir>(
 struct Wanted<'a> {
     message: &'a Message,
     update: &'a Update,
-    ghost asks: { message.now.request ≡ request.Update update.now },
 }
 
 /// Changes the entries as is asked for. None where nothing refuses it. After `AllocError` all is as it was.
@@ -249,6 +248,7 @@ fn put_accepted(
     keeps: bool,
     out: &mut Outgoing,
 ) -> Result<(), AllocError>
+    requires asks { wanted.message.now.request ≡ request.Update wanted.update.now }
     ensures ok { OnOk result (Puts wanted.entry.message.now.id
         (reply.Ended (ending_for wanted.entry.update.now) (result_with code.Success) ∷ [])
         out.old.replies.items out.new.replies.items) }
@@ -301,6 +301,7 @@ fn put_change<D: Dir>(
     keeps: bool,
     out: &mut Outgoing,
 ) -> Result<(), AllocError>
+    requires asks { wanted.message.now.request ≡ request.Update wanted.update.now }
     ensures ok { OnOk result (Sends wanted.entry.message.now.id
         (changing (entries_of (D.rows dir.old)) who.now wanted.entry.update.now
         (change_of (entries_of (D.rows dir.old)) who.now wanted.entry.update.now))
