@@ -80,10 +80,7 @@ fn add(alloc: Global, name: &[u8], lines: &[RecordLine]) -> Result<Request, NoMe
 {
     let name = octets_of(alloc, name)?;
     let attributes = attributes_of(alloc, lines)?;
-    Ok(Request::Update(Update::Add(AddRequest {
-        name,
-        attributes,
-    })))
+    Ok(Request::Update(Update::Add(AddRequest { name, attributes })))
 }
 
 // A modify.
@@ -92,10 +89,7 @@ fn modify(alloc: Global, name: &[u8], lines: &[RecordLine]) -> Result<Request, N
 {
     let name = octets_of(alloc, name)?;
     let changes = changes_of(alloc, lines)?;
-    Ok(Request::Update(Update::Modify(ModifyRequest {
-        name,
-        changes,
-    })))
+    Ok(Request::Update(Update::Modify(ModifyRequest { name, changes })))
 }
 
 // A rename.

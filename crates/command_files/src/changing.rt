@@ -9,10 +9,10 @@ ghost use Rattle.change_replay.specs.Replayed.{replayed};
 ghost use Rattle.whole_blocks.specs.Blocks.{whole_part};
 ghost use Rattle.command_files.specs.loading.Changing.{changed, changed_by, changed_by_whole, changed_for, changes_of, fault_of, fault_of_line, fault_of_replay, head_of, is_torn_head, left_by, left_of, tied_to};
 
-use client_core::ldap_msg::ResultCode;
 use change_replay::change_records::{ChangeFile, NoMemory, RecordedChange, put_head, read_file};
 use change_replay::laws::a_good_tree_stays_good_when_replayed;
 use change_replay::{ReplayFault, apply_changes};
+use client_core::ldap_msg::ResultCode;
 use data_file::ldif_records::{BadLine, LineCause};
 use dir_tree::Tree;
 use sha2::{Digest, Sha256};

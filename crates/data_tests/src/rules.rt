@@ -119,7 +119,11 @@ static OWN_VALUES: [Row; 6] = [
         Some(EntryRule::RdnValues),
     ),
     // this rule comes before that of classes
-    ("cn=ann,dc=example", &[("cn", "Annie")], Some(EntryRule::RdnValues)),
+    (
+        "cn=ann,dc=example",
+        &[("cn", "Annie")],
+        Some(EntryRule::RdnValues),
+    ),
 ];
 
 #[test]
@@ -129,7 +133,11 @@ fn a_value_of_the_own_rdn_is_among_the_attributes(rt: HostRuntime) -> Result<(),
 
 static CLASSES: [Row; 8] = [
     // no class, and one outside the table
-    ("cn=ann,dc=example", &[("cn", "Ann")], Some(EntryRule::Classes)),
+    (
+        "cn=ann,dc=example",
+        &[("cn", "Ann")],
+        Some(EntryRule::Classes),
+    ),
     (
         "cn=ann,dc=example",
         &[
@@ -475,7 +483,10 @@ fn the_values_of_an_entry_have_at_most_67108864_octets(rt: HostRuntime) -> Resul
     let tree = tree(rt.alloc())?;
     let attributes = [("objectClass", "person"), ("cn", "Ann"), ("sn", "Lee")];
     // the other three values have 6, 3 and 3 octets
-    for (octets, want) in [(67_108_852usize, None), (67_108_853, Some(EntryRule::Limits))] {
+    for (octets, want) in [
+        (67_108_852usize, None),
+        (67_108_853, Some(EntryRule::Limits)),
+    ] {
         let mut entry = entry(rt.alloc(), "cn=ann,dc=example", &attributes)?;
         let password = vec![in rt.alloc(); 0u8; octets]?;
         put(rt.alloc(), &mut entry, "userPassword", password)?;
