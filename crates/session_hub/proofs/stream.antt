@@ -1,4 +1,6 @@
 pub mod EachLemmas
 pub mod StreamLemmas
 pub mod FirstLemmas
+pub mod FrameLemmas
+pub mod JoinLemmas
 mod FirstExamples

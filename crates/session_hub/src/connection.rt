@@ -1,6 +1,6 @@
 //! One connection held.
 
-ghost use Rattle.std.specs.Prelude.{◌≡◌, ◌≤◌, ◌+◌, ℕ, true, [], length, drop, vec_len, vec_capacity, IfOk};
+ghost use Rattle.std.specs.Prelude.{◌≡◌, ◌≤◌, ◌+◌, ◌++◌, ℕ, true, false, [], length, take, drop, vec_len, vec_capacity, IfOk};
 ghost use Rattle.dir_tree.specs.tree.Numbered.{entries_of};
 ghost use Rattle.session_model.specs.Kept.{closed, without_front, opened_kept};
 ghost use Rattle.session_hub.specs.Answering.{rules};
@@ -26,7 +26,8 @@ use std::mem::replace;
 /// The most octets that a buffer keeps room for while it is empty.
 const MOST_SPARE: usize = 65_536;
 
-/// How many octets of replies an open connection keeps room for, so that its first answer may take no memory.
+/// How many octets of replies, and how many unread, an open connection keeps room for, so that its first answer may take no
+/// memory.
 const KEPT_ROOM: usize = 64;
 
 /// A connection: its octets that are part of no whole message yet, and the octets still to be sent.
@@ -45,13 +46,13 @@ impl Model for Connection {
     ghost use Rattle.std.specs.Prelude.{drop, length, vec_capacity};
     ghost use Rattle.session_model.specs.Kept.{Kept};
     ghost use Rattle.session_hub.specs.Parties.{Requester};
-    ghost use Rattle.session_hub.specs.connection.Queues.{IsQueue};
+    ghost use Rattle.session_hub.specs.connection.Queues.{AreBuffers};
 
     ghost Value = { Kept Requester };
 
     ghost view = { λ connection. record { number = connection.number; rest = connection.rest.items; who = connection.who; queue = drop connection.taken connection.out.items; closing = connection.closing; cut = connection.cut } };
 
-    ghost invariant = { λ connection. IsQueue connection.taken (length connection.out.items) (vec_capacity connection.out) connection.closing };
+    ghost invariant = { λ connection. AreBuffers connection.taken (length connection.out.items) (vec_capacity connection.out) connection.closing (vec_capacity connection.rest) };
 }
 
 impl Connection {
@@ -59,10 +60,11 @@ impl Connection {
     pub fn new(alloc: Global, number: u32) -> Result<Connection, AllocError>
         ensures ok { IfOk result (λ connection. (terms : Terms) → connection ≡ opened_kept (rules terms) number) }
     {
+        let rest = Vec::with_capacity(alloc, KEPT_ROOM)?;
         let out = Vec::with_capacity(alloc, KEPT_ROOM)?;
         Ok(Connection {
             number,
-            rest: Vec::new(alloc),
+            rest,
             who: anonymous(),
             out,
             taken: 0,
@@ -133,8 +135,8 @@ impl Connection {
 
     /// Hears a piece of an open connection: its whole messages are answered, and what is left is
     /// kept unless the connection closes now. Where there is no memory, or more waits for it than
-    /// there is room for, it is cut, which closes it. Where nothing is unread or queued it isn't cut before a
-    /// first answer that has kept room.
+    /// there is room for, it is cut, which closes it. Where nothing is queued it isn't cut before a first
+    /// answer that has kept room.
     pub fn hear<D: Dir>(
         &mut self,
         alloc: Global,
@@ -148,90 +150,61 @@ impl Connection {
             (entries_of (D.rows dir.new)) self.new changes.new.items }
         ensures bounded { length self.new.rest ≤ most_unread }
         ensures room { StaysWithin allowed.terms allowed.room piece.now (entries_of (D.rows dir.old)) self.old self.new }
-        ensures first { IsIdle self.old → HasKeptAnswer piece.now → IsBehindFirst self.new.cut }
-    {
-        if self.rest.is_empty() {
-            self.hear_alone(alloc, dir, piece, allowed, changes);
-        } else {
-            self.hear_behind(alloc, dir, piece, allowed, changes);
-        }
-    }
-
-    /// Hears a piece where nothing is unread: it is read where it lies.
-    fn hear_alone<D: Dir>(
-        &mut self,
-        alloc: Global,
-        dir: &mut D,
-        piece: &[u8],
-        allowed: Allowance,
-        changes: &mut Vec<u8>,
-    )
-        requires { self.old.rest ≡ [] }
-        ensures exact { HearsPiece allowed.terms piece.now
-            (entries_of (D.rows dir.old)) self.old changes.old.items
-            (entries_of (D.rows dir.new)) self.new changes.new.items }
-        ensures bounded { length self.new.rest ≤ most_unread }
-        ensures room { StaysWithin allowed.terms allowed.room piece.now (entries_of (D.rows dir.old)) self.old self.new }
-        ensures first { IsIdle self.old → HasKeptAnswer piece.now → IsBehindFirst self.new.cut }
+        ensures first { IsIdle self.old → HasKeptAnswer self.old.rest piece.now → IsBehindFirst self.new.cut }
     {
         let inside = Allowance {
             terms: allowed.terms,
             room: room_behind(allowed.room, self.taken),
         };
-        let spoken = speak_and_fit(
-            alloc,
-            dir,
-            &mut self.who,
-            piece,
-            inside,
-            &mut self.out,
-            changes,
-        );
-        let end = keep_unread(&mut self.rest, piece, spoken);
-        self.closing = closes(end);
-        self.cut = cut_behind(end, spoken.answered);
-    }
-
-    /// Hears a piece behind what is unread.
-    fn hear_behind<D: Dir>(
-        &mut self,
-        alloc: Global,
-        dir: &mut D,
-        piece: &[u8],
-        allowed: Allowance,
-        changes: &mut Vec<u8>,
-    )
-        ensures exact { HearsPiece allowed.terms piece.now
-            (entries_of (D.rows dir.old)) self.old changes.old.items
-            (entries_of (D.rows dir.new)) self.new changes.new.items }
-        ensures bounded { length self.new.rest ≤ most_unread }
-        ensures room { StaysWithin allowed.terms allowed.room piece.now (entries_of (D.rows dir.old)) self.old self.new }
-    {
-        match self.rest.extend_from_slice(piece) {
-            Err(_) => {
-                discard(&mut self.rest);
-                self.closing = true;
-                self.cut = Some(0);
-            }
-            Ok(()) => {
-                let inside = Allowance {
-                    terms: allowed.terms,
-                    room: room_behind(allowed.room, self.taken),
-                };
-                let spoken = speak_and_fit(
-                    alloc,
-                    dir,
-                    &mut self.who,
-                    &self.rest,
-                    inside,
-                    &mut self.out,
-                    changes,
-                );
-                let end = leave_unread(&mut self.rest, spoken);
-                self.closing = closes(end);
-                self.cut = cut_behind(end, spoken.answered);
-            }
+        let (who, out) = (&mut self.who, &mut self.out);
+        if self.rest.is_empty() {
+            let spoken = speak_and_fit(alloc, dir, who, piece, inside, out, changes);
+            let end = keep_unread(&mut self.rest, piece, spoken);
+            self.closing = closes(end);
+            self.cut = cut_behind(end, spoken.answered);
+        } else {
+            let all = join(&mut self.rest, piece);
+            let spoken = speak_and_fit(alloc, dir, who, &self.rest, inside, out, changes);
+            let end = leave_unread(&mut self.rest, spoken.read, end_of(all, spoken.end));
+            self.closing = closes(end);
+            self.cut = cut_behind(end, spoken.answered);
         }
+    }
+}
+
+/// Puts a piece behind unread octets. Where there is no memory for all of it, the first octets of both are left, as many as
+/// there is kept room for, and the answer is false.
+fn join(unread: &mut Vec<u8>, piece: &[u8]) -> bool
+    requires { kept_room ≤ vec_capacity unread.old }
+    ensures all { result ≡ true → unread.new.items ≡ unread.old.items ++ piece.now }
+    ensures front { result ≡ false → unread.new.items ≡ take kept_room (unread.old.items ++ piece.now) }
+    ensures kept { kept_room ≤ vec_capacity unread.new }
+{
+    match unread.extend_from_slice(piece) {
+        Ok(()) => true,
+        Err(_) => {
+            unread.truncate(KEPT_ROOM);
+            let more = piece.len().min(KEPT_ROOM - unread.len());
+            let _joined = unread.extend_from_slice(piece.split_at(more).0);
+            false
+        }
+    }
+}
+
+/// How a stream ends of which all was there, or only its front: where there may be more, the connection is cut.
+fn end_of(all: bool, end: SpeechEnd) -> SpeechEnd
+    ensures may { MayCut end result }
+    ensures front { all ≡ false → closes_at result ≡ true }
+{
+    match end {
+        SpeechEnd::StaysOpen => if all {
+            SpeechEnd::StaysOpen
+        } else {
+            SpeechEnd::IsCut
+        },
+        SpeechEnd::Closes => SpeechEnd::Closes,
+        SpeechEnd::IsCut => SpeechEnd::IsCut,
+        SpeechEnd::IsFull => SpeechEnd::IsFull,
     }
 }
 
@@ -257,7 +230,7 @@ fn speak_and_fit<D: Dir>(
         (record { replies = queue.old.items; changes = changes.old.items })
         (record { replies = queue.new.items; changes = changes.new.items })
         (entries_of (D.rows dir.new)) who.new result }
-    ensures first { vec_len queue.old + kept_room ≤ vec_capacity queue.old → HasKeptAnswer stream.now → GaveFirst result }
+    ensures first { vec_len queue.old + kept_room ≤ vec_capacity queue.old → HasKeptAnswer [] stream.now → GaveFirst result }
     ensures kept { result.end ≡ StaysOpen → kept_room ≤ vec_capacity queue.new }
 {
     let mut out = Outgoing {
@@ -333,12 +306,13 @@ fn give_back(octets: &mut Vec<u8>, count: usize)
     fit(octets);
 }
 
-/// Drops all octets and their room.
+/// Drops all octets and their room, but for what is kept.
 fn discard(octets: &mut Vec<u8>)
     ensures items { octets.new.items ≡ [] }
+    ensures kept { kept_room ≤ vec_capacity octets.old → kept_room ≤ vec_capacity octets.new }
 {
     octets.clear();
-    octets.shrink_to(0);
+    octets.shrink_to(KEPT_ROOM);
 }
 
 fn closes(end: SpeechEnd) -> bool
@@ -363,7 +337,8 @@ fn cut_behind(end: SpeechEnd, answered: u64) -> Option<u64>
 fn keep_unread(rest: &mut Vec<u8>, stream: &[u8], spoken: Spoken) -> SpeechEnd
     requires empty { rest.old.items ≡ [] }
     requires within { spoken.read ≤ length stream.now }
-    ensures { KeepsRest spoken.end (drop spoken.read stream.now) rest.new.items result }
+    ensures items { KeepsRest spoken.end (drop spoken.read stream.now) rest.new.items result }
+    ensures kept { kept_room ≤ vec_capacity rest.old → kept_room ≤ vec_capacity rest.new }
 {
     match spoken.end {
         SpeechEnd::Closes => SpeechEnd::Closes,
@@ -377,21 +352,23 @@ fn keep_unread(rest: &mut Vec<u8>, stream: &[u8], spoken: Spoken) -> SpeechEnd
 }
 
 /// Leaves the octets that weren't read, if the connection stays open.
-fn leave_unread(rest: &mut Vec<u8>, spoken: Spoken) -> SpeechEnd
-    requires { spoken.read ≤ vec_len rest.old }
-    ensures { KeepsRest spoken.end (drop spoken.read rest.old.items) rest.new.items result }
+fn leave_unread(rest: &mut Vec<u8>, read: usize, end: SpeechEnd) -> SpeechEnd
+    requires { read ≤ vec_len rest.old }
+    ensures items { KeepsRest end (drop read rest.old.items) rest.new.items result }
+    ensures kept { kept_room ≤ vec_capacity rest.old → kept_room ≤ vec_capacity rest.new }
 {
-    match spoken.end {
-        SpeechEnd::StaysOpen => cut_front(rest, spoken.read),
+    match end {
+        SpeechEnd::StaysOpen => cut_front(rest, read),
         SpeechEnd::Closes | SpeechEnd::IsCut | SpeechEnd::IsFull => discard(rest),
     }
-    spoken.end
+    end
 }
 
 /// Takes the first octets away, if there are any to take.
 fn cut_front(octets: &mut Vec<u8>, count: usize)
     requires { count ≤ vec_len octets.old }
-    ensures { octets.new.items ≡ drop count octets.old.items }
+    ensures items { octets.new.items ≡ drop count octets.old.items }
+    ensures kept { kept_room ≤ vec_capacity octets.old → kept_room ≤ vec_capacity octets.new }
 {
     if count > 0 {
         give_back(octets, count);

@@ -165,8 +165,9 @@ impl Hub {
     /// A search is answered within the bounds' limit, and each accepted change is recorded as `unstored`
     /// where the bounds' terms say so. Where there is no memory for an answer, or more
     /// waits for the connection than it has room for, that connection alone is cut, which closes it, and
-    /// `cut` tells where. A connection keeps the room for its first answer from its opening: where nothing of it is unread or
-    /// queued, the notice to a broken stream and the answer to an anonymous bind at the front of a piece are never cut.
+    /// `cut` tells where. A connection keeps the room for its first answer from its opening: where nothing of it is queued,
+    /// the notice to a broken stream and the answer to an anonymous bind at the front of what is unread and a piece are never
+    /// cut, but for a bind of more than 64 octets that came in several pieces.
     /// `AllocError` comes where a connection is to be held and there is no memory;
     /// all is then as it was. Over twins of the directory the same is answered to requests that read.
     pub fn hear<D: Dir>(&mut self, dir: &mut D, event: Event<'_>) -> Result<(), AllocError>
@@ -180,37 +181,6 @@ impl Hub {
         ensures kept { OnErr result
             (held (entries_of (D.rows dir.new)) self.new ≡ held (entries_of (D.rows dir.old)) self.old) }
         ensures bounded { IsBounded self.new.kept }
-        ensures room { HearsWithin event.entry self.old.bounds (entries_of (D.rows dir.old)) self.old.kept self.new.kept }
-        ensures first { HearsFirst event.entry self.old.kept self.new.kept }
-        ensures bounds { self.new.bounds ≡ self.old.bounds }
-    {
-        let heard = self.hear_event(dir, event);
-        let _held = &self.connections;
-        heard
-    }
-
-    /// Forgets a connection that was found lost.
-    pub fn gone(&mut self, conn: u32)
-        ensures exact { self.new ≡ record self.old { kept = forgotten conn self.old.kept } }
-        ensures run { FollowsAnywhere (run.Gone conn) self.old self.new }
-    {
-        self.forget(conn);
-    }
-
-    /// Forgets a connection that was hung up.
-    pub fn drop_conn(&mut self, conn: u32)
-        ensures exact { self.new ≡ record self.old { kept = forgotten conn self.old.kept } }
-        ensures run { FollowsAnywhere (run.HungUp conn) self.old self.new }
-    {
-        self.forget(conn);
-    }
-
-    fn hear_event<D: Dir>(&mut self, dir: &mut D, event: Event<'_>) -> Result<(), AllocError>
-        ensures ok { OnOk result (Hears self.old.bounds.terms event.entry
-            (held (entries_of (D.rows dir.old)) self.old) (held (entries_of (D.rows dir.new)) self.new)) }
-        ensures cause { OnErr result (OpensOne event.entry self.old.kept) }
-        ensures kept { OnErr result
-            (held (entries_of (D.rows dir.new)) self.new ≡ held (entries_of (D.rows dir.old)) self.old) }
         ensures room { HearsWithin event.entry self.old.bounds (entries_of (D.rows dir.old)) self.old.kept self.new.kept }
         ensures first { HearsFirst event.entry self.old.kept self.new.kept }
         ensures bounds { self.new.bounds ≡ self.old.bounds }
@@ -239,10 +209,27 @@ impl Hub {
         }
     }
 
+    /// Forgets a connection that was found lost.
+    pub fn gone(&mut self, conn: u32)
+        ensures exact { self.new ≡ record self.old { kept = forgotten conn self.old.kept } }
+        ensures run { FollowsAnywhere (run.Gone conn) self.old self.new }
+    {
+        self.forget(conn);
+    }
+
+    /// Forgets a connection that was hung up.
+    pub fn drop_conn(&mut self, conn: u32)
+        ensures exact { self.new ≡ record self.old { kept = forgotten conn self.old.kept } }
+        ensures run { FollowsAnywhere (run.HungUp conn) self.old self.new }
+    {
+        self.forget(conn);
+    }
+
     fn open(&mut self, conn: u32) -> Result<(), AllocError>
         ensures ok { OnOk result (HearsAnywhere (Event.Opened conn) self.old self.new) }
         ensures cause { OnErr result (OpensOne (Event.Opened conn) self.old.kept) }
         ensures kept { OnErr result (self.new ≡ self.old) }
+        ensures bounded { IsBounded self.new.kept }
         ensures bounds { self.new.bounds ≡ self.old.bounds }
     {
         if is_at(&self.connections, self.last, conn) {
@@ -258,6 +245,7 @@ impl Hub {
 
     fn end(&mut self, conn: u32)
         ensures ended { HearsAnywhere (Event.Ended conn) self.old self.new }
+        ensures bounded { IsBounded self.new.kept }
         ensures bounds { self.new.bounds ≡ self.old.bounds }
     {
         end_at(&mut self.connections, self.last, conn);

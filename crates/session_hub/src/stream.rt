@@ -1,6 +1,6 @@
 //! The answers to the messages of a stream.
 
-ghost use Rattle.std.specs.Prelude.{◌≡◌, ◌<◌, ◌≤◌, ◌+◌, length, true, false, vec_len, vec_capacity};
+ghost use Rattle.std.specs.Prelude.{◌≡◌, ◌<◌, ◌≤◌, ◌+◌, [], length, true, false, vec_len, vec_capacity};
 ghost use Rattle.dir_tree.specs.tree.Numbered.{entries_of};
 ghost use Rattle.session_hub.specs.Outgoing.{put_in};
 ghost use Rattle.session_hub.specs.Answers.{Speaks, GaveFirst};
@@ -39,7 +39,7 @@ pub fn speak<D: Dir>(
 ) -> Spoken
     ensures said { Speaks allowed.terms allowed.room (entries_of (D.rows dir.old)) who.old stream.now
         (put_in out.old) (put_in out.new) (entries_of (D.rows dir.new)) who.new result }
-    ensures first { vec_len out.old.replies + kept_room ≤ vec_capacity out.old.replies → HasKeptAnswer stream.now → GaveFirst result }
+    ensures first { vec_len out.old.replies + kept_room ≤ vec_capacity out.old.replies → HasKeptAnswer [] stream.now → GaveFirst result }
 {
     let mut read = 0;
     let mut answered = 0;

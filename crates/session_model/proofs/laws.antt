@@ -15,6 +15,7 @@ pub mod LostLemmas
 pub mod ReplayLemmas
 pub mod SpeechLemmas
 pub mod JoinedLemmas
+pub mod FrontLemmas
 pub mod ClaimLemmas
 pub mod SessionLemmas
 pub mod AlikeLemmas

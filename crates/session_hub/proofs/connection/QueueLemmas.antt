@@ -1,5 +1,5 @@
 -- The buffer of a connection's queue, and the room that it keeps.
-use Rattle.std.proofs.Common.{◌≡◌, ◌≤◌, ◌+◌, ◌-◌, ℕ, Bool, true, false, List, [], ◌++◌, length, drop, refl, sym, ap, ◌∙◌, length-append, length-drop, arith, true≢false, inl, inr}
+use Rattle.std.proofs.Common.{◌≡◌, ◌≤◌, ◌+◌, ℕ, Bool, true, false, List, [], ◌++◌, length, drop, sym, ap, ◌∙◌, length-append, length-drop, arith, true≢false}
 use Rattle.session_hub.specs.Parties.{DirectoryEntries, Requester}
 use Rattle.session_hub.specs.Terms.{Terms}
 use Rattle.session_hub.specs.declared.spoken.Spoken.{Spoken}

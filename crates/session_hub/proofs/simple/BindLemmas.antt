@@ -1,9 +1,9 @@
 -- The simple bind that a message is, by its operation.
-use Rattle.std.proofs.Common.{◌≡◌, ℕ, Bool, true, false, ◌==◌, List, [], ◌∷◌, length, Option, Some, None, refl, sym, ap, ◌∙◌, arith}
+use Rattle.std.proofs.Common.{◌≡◌, ℕ, Bool, true, false, ◌==◌, List, [], ◌∷◌, Option, Some, None, refl, ap, ◌∙◌, arith}
 use Rattle.std.proofs.lemmas.Bool.Decides.{nat_tests}
 use Rattle.session_model.specs.ber_layout.element.Pieces.{◌>>=◌, are_pieces, other_than}
 use Rattle.session_model.specs.ber_layout.components.Components.{Component, optional_of}
-use Rattle.session_model.specs.ber_layout.Layouts.{Layout, Value, reads_into, reads}
+use Rattle.session_model.specs.ber_layout.Layouts.{Value, reads_into, reads}
 use Rattle.session_model.specs.ber_layout.Layouts.Layout.{AnyOctets, End}
 use Rattle.session_model.specs.ldap_msg.declared.kinds.Auth.{Auth}
 use Rattle.session_model.specs.ldap_msg.declared.kinds.Auth.TheVariants.{Simple, Other}
@@ -20,9 +20,9 @@ use Rattle.session_model.specs.ldap_msg.Binds.{bind_of}
 use Rattle.session_model.specs.ldap_msg.Search.{search_of}
 use Rattle.session_model.specs.ldap_msg.Kinds.{modify_layout, modify_from, add_layout, add_from, rename_layout, rename_from, compare_layout, compare_from, extended_layout, abandon_layout}
 use Rattle.session_model.specs.ldap_msg.Controls.{controls_layout, controls_from}
-use Rattle.session_model.specs.ldap_msg.reading.Contents.{request_in, request_of}
+use Rattle.session_model.specs.ldap_msg.reading.Contents.{request_of}
 use Rattle.op_bind.specs.Binds.{with_password}
-use Rattle.session_hub.specs.SimpleBinds.{Credentials, simple_message, by_password, credentials_of, credentials_in, simple_in, says_no_controls}
+use Rattle.session_hub.specs.SimpleBinds.{Credentials, simple_message, credentials_of, credentials_in, simple_in, says_no_controls}
 use Rattle.session_hub.proofs.simple.ControlLemmas.{with_controls, message_before, no_controls}
 
 -- credentials with the number of their message

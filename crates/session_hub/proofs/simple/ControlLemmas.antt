@@ -3,15 +3,15 @@ use Rattle.std.proofs.Common.{◌≡◌, ℕ, Bool, true, false, ◌==◌, cond,
 use Rattle.std.proofs.lemmas.Bool.Decides.{nat_tests}
 use Rattle.session_model.specs.ber_layout.element.Pieces.{◌>>=◌, Piece, tagged_at, are_pieces, other_than}
 use Rattle.session_model.specs.ber_layout.components.Components.{Component, begins, required_of, optional_of, each_of, each_from}
-use Rattle.session_model.specs.ber_layout.Layouts.{Layout, Value, reads_into, reads}
+use Rattle.session_model.specs.ber_layout.Layouts.{Value, reads_into, reads}
 use Rattle.session_model.specs.ber_layout.Layouts.Layout.{Maybe, FurtherBut}
-use Rattle.session_model.specs.ldap_msg.Controls.{control_layout, controls_layout, control_from, controls_from}
+use Rattle.session_model.specs.ldap_msg.Controls.{control_layout, controls_layout, control_from}
 use Rattle.session_model.specs.ldap_msg.declared.kinds.Message.{Message}
 use Rattle.session_model.specs.ldap_msg.declared.kinds.Request.{Request}
 use Rattle.session_model.specs.ldap_msg.declared.kinds.Control.{Control}
 use Rattle.session_model.specs.ldap_msg.reading.Contents.{request_of}
 use Rattle.session_model.specs.ldap_msg.reading.Messages.{message_layout, message_from}
-use Rattle.session_hub.specs.SimpleBinds.{simple_in, says_no_controls, is_empty_list}
+use Rattle.session_hub.specs.SimpleBinds.{simple_in, says_no_controls}
 
 -- the message of a number and an operation that these octets follow
 abbrev pub message_before : ℕ → ℕ × List ℕ → List ℕ → Option Message

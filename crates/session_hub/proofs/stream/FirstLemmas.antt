@@ -1,5 +1,5 @@
 -- The first answer to a stream for which there is the kept room.
-use Rattle.std.proofs.Common.{◌≡◌, ◌<◌, ◌≤◌, ◌+◌, ◌⊎◌, ℕ, zero, suc, Bool, false, List, [], length, take, drop, refl, sym, ap, ◌∙◌, subst, inl, inr, arith, length-drop}
+use Rattle.std.proofs.Common.{◌≡◌, ◌<◌, ℕ, zero, suc, List, [], take, refl, sym, ap, ◌∙◌, subst, inl, inr, arith}
 use Rattle.session_model.specs.ldap_msg.declared.kinds.Frame.TheVariants.{Whole, More, Bad}
 use Rattle.session_model.specs.ldap_msg.Streams.{frame_at}
 use Rattle.session_hub.specs.declared.spoken.Spoken.{Spoken}
@@ -18,7 +18,7 @@ gave_some read answered end some = inr (positive answered some)
     positive (suc n) not_zero = omega arith
 
 -- a stream with such an answer is more than the front of a message
-pub not_more : (stream rest : List ℕ) → HasKeptAnswer stream → rest ≡ stream → frame_at rest ≡ More → ⊥
+pub not_more : (stream rest : List ℕ) → HasKeptAnswer [] stream → rest ≡ stream → frame_at rest ≡ More → ⊥
 not_more stream rest kept same more =
     elim kept [
       | inl bad ↦ (let e : Bad ≡ More = sym bad ∙ ap frame_at (sym same) ∙ more in cc)
@@ -26,7 +26,7 @@ not_more stream rest kept same more =
     ]
 
 -- its first message, where there is one, is an anonymous bind
-pub first_bind : (stream rest message : List ℕ) (count : ℕ) → HasKeptAnswer stream → rest ≡ stream → frame_at rest ≡ Whole count → message ≡ take count rest → IsAnonymousBind message
+pub first_bind : (stream rest message : List ℕ) (count : ℕ) → HasKeptAnswer [] stream → rest ≡ stream → frame_at rest ≡ Whole count → message ≡ take count rest → IsAnonymousBind message
 first_bind stream rest message count kept same whole is =
     elim kept [
       | inl bad ↦ absurd (let e : Bad ≡ Whole count = sym bad ∙ ap frame_at (sym same) ∙ whole in cc)

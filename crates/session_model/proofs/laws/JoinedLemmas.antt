@@ -10,7 +10,7 @@ use Rattle.session_model.proofs.laws.BytesLemmas.{new_messages-are}
 use Rattle.session_model.proofs.laws.StepLemmas.{with_session-same, with_session-other}
 
 -- by what was said first
-then_closed : {T W : Type 0} (a b : Answered T W) → a.closes ≡ true → and_then a b ≡ a
+pub then_closed : {T W : Type 0} (a b : Answered T W) → a.closes ≡ true → and_then a b ≡ a
 then_closed a b e = rw e refl
 
 then_open : {T W : Type 0} (a b : Answered T W) → a.closes ≡ false → and_then a b ≡ after_octets a.replies a.changes b
@@ -49,13 +49,13 @@ broken_again [] q h = absurd h
 broken_again (x ∷ xs) q (inl h) = inl h
 broken_again (x ∷ xs) q (inr h) = inr (broken_length xs q h)
 
-bad_again : (s q : List ℕ) → is_broken s ≡ true → frame_at (rest_of s ++ q) ≡ Bad
+pub bad_again : (s q : List ℕ) → is_broken s ≡ true → frame_at (rest_of s ++ q) ≡ Bad
 bad_again s q broken = sym (frame_complete (rest_of s ++ q) Bad (broken_again (rest_of s) q (broken_sound s broken)))
 
 no_more : (s q : List ℕ) → is_broken s ≡ true → new_messages s q ≡ []
 no_more s q broken = new_messages-are s q ∙ whole_bad (rest_of s ++ q) (bad_again s q broken)
 
-stays_broken : (s q : List ℕ) → is_broken s ≡ true → is_broken (s ++ q) ≡ true
+pub stays_broken : (s q : List ℕ) → is_broken s ≡ true → is_broken (s ++ q) ≡ true
 stays_broken s q broken =
     broken_rest (s ++ q) ∙ ap is_broken (rest_append s q) ∙ sym (broken_rest (rest_of s ++ q)) ∙ broken_bad (rest_of s ++ q) (bad_again s q broken)
 

@@ -78,4 +78,4 @@ pub returns-else-is_closing-clause-first : goal.returns-else-is_closing-clause-f
 returns-else-is_closing-clause-first g c =
     first_open c.args.number c.in-Some.at c.args.piece.now c.args.connections.now c.index-connections-at.result c.hear.new.self c.in-Some.ensures c.index-connections-at.is
     (ap (λ (x : Kept Requester). x.number) c.hear.ensures.exact.kept ∙ ap (λ (x : Kept Requester). x.number) (sym c.index-connections-at.is))
-    (subst (λ x. IsIdle x → HasKeptAnswer c.args.piece.now → IsBehindFirst c.hear.new.self.cut) (sym c.index-connections-at.is) c.hear.ensures.first)
+    (subst (λ (x : Kept Requester). IsIdle x → HasKeptAnswer x.rest c.args.piece.now → IsBehindFirst c.hear.new.self.cut) (sym c.index-connections-at.is) c.hear.ensures.first)

@@ -1,7 +1,7 @@
 use Rattle.std.proofs.Common.{◌≡◌, ◌++◌, ◌∷◌, [], length, false, sym, ap, ◌∙◌, subst, arith}
 use Rattle.session_model.specs.Kept.{is_kept, kept_of, opened_kept}
 use Rattle.session_hub.specs.Answering.{rules}
-use Rattle.session_hub.specs.hub.Hubs.{HubState, AreHeld}
+use Rattle.session_hub.specs.hub.Hubs.{HubState, AreHeld, IsBounded}
 use Rattle.session_hub.proofs.hub.HubLemmas.{opens_held, opens_full, opens_new, held_opened, on_err_any}
 use Rattle.session_hub.proofs.hub.Hub.open.Goals as goal
 
@@ -50,3 +50,11 @@ invariant_of-self-2 c =
     ap (λ ks. is_kept (kept_of c.args.conn ks)) (sym c.deref.ensures.value) ∙ sym c.is_at.ensures ∙ c.if-is_at.false in
     subst AreHeld (sym (c.in_ok-push.ensures.items ∙ ap (λ k. c.self.inside.connections.items ++ k ∷ []) (c.in_ok-connection.ensures.ok c.args.self.now.bounds.terms)))
     (held_opened c.args.self.now.bounds.terms c.args.conn c.self.inside.connections.items c.self.invariant absent)
+
+-- and nothing of it is unread
+pub returns-clause-bounded : goal.returns-clause-bounded
+returns-clause-bounded c =
+    let absent : is_kept (kept_of c.args.conn c.self.inside.connections.items) ≡ false =
+    ap (λ ks. is_kept (kept_of c.args.conn ks)) (sym c.deref.ensures.value) ∙ sym c.is_at.ensures ∙ c.if-is_at.false in
+    subst IsBounded (sym (c.in_ok-push.ensures.items ∙ ap (λ k. c.self.inside.connections.items ++ k ∷ []) (c.in_ok-connection.ensures.ok c.args.self.now.bounds.terms)))
+    (held_opened c.args.self.now.bounds.terms c.args.conn c.self.inside.connections.items c.self.invariant absent).bounded
