@@ -6,7 +6,7 @@ pub use Rattle.session_model.proofs.laws.KeepingLemmas.{Keeps-taken, length-kept
 -- what is said to a stream, message by message
 pub use Rattle.session_model.proofs.laws.SpeechLemmas.{one_later, speech-whole, speech-more, speech-bad, speech-cut}
 -- and to the front of one
-pub use Rattle.session_model.proofs.laws.FrontLemmas.{speech-front_cut, speech-front_closed}
+pub use Rattle.session_model.proofs.laws.FrontLemmas.{speech-front_cut, speech-front_closed, answered-front_closed}
 -- octets and messages, however they are told apart
 pub use Rattle.session_model.proofs.laws.JoinedLemmas.{talk-append, pieces-join}
 -- what each answer keeps true of a tree, through all steps, at each place, and of each message that is answered

@@ -1,10 +1,11 @@
 -- A stream of which only the front was there to be answered, as many octets as there is kept room for.
 use Rattle.std.proofs.Common.{◌≡◌, ◌≢◌, ◌≤◌, ℕ, Bool, true, false, List, [], ◌++◌, length, take, drop, refl, sym, ap, ◌∙◌, subst, inl, inr, length-append, arith, true≢false}
-use Rattle.std.proofs.lemmas.List.{take-append-drop, take-take}
+use Rattle.std.specs.List.{AllByRecursion}
+use Rattle.std.proofs.lemmas.List.{take-append-drop, take-append-le, take-take}
 use Rattle.session_model.specs.ldap_msg.declared.kinds.Frame.TheVariants.{Whole, Bad}
 use Rattle.session_model.specs.ldap_msg.Streams.{frame_at, whole, rest_of}
-use Rattle.session_model.specs.Rules.{Answered}
-use Rattle.session_model.proofs.Theorems.{speech-front_cut, speech-front_closed}
+use Rattle.session_model.specs.Rules.{Answered, up_to}
+use Rattle.session_model.proofs.Theorems.{speech-front_cut, speech-front_closed, answered-front_closed}
 use Rattle.session_model.proofs.ldap_msg_proofs.Theorems.{whole_append}
 use Rattle.session_hub.specs.Parties.{DirectoryEntries, Requester}
 use Rattle.session_hub.specs.Terms.{Terms}
@@ -13,6 +14,7 @@ use Rattle.session_hub.specs.declared.spoken.SpeechEnd.{SpeechEnd}
 use Rattle.session_hub.specs.declared.spoken.SpeechEnd.TheVariants.{StaysOpen, Closes, IsCut, IsFull}
 use Rattle.session_hub.specs.Outgoing.{Put}
 use Rattle.session_hub.specs.Answering.{rules}
+use Rattle.session_hub.specs.ShortAnswers.{IsAnsweredShort, AreAnsweredShort}
 use Rattle.session_hub.specs.Answers.{Gives, Speaks, MayCut, said_to, closes_at, cut_at}
 use Rattle.session_hub.specs.FirstAnswers.{kept_room, IsAnonymousBind, HasKeptAnswer}
 use Rattle.session_hub.specs.connection.Connections.{KeepsRest}
@@ -34,6 +36,13 @@ more_whole front tail answered fits =
     let all : length (whole (front ++ tail)) ≡ length (whole front ++ whole (rest_of front ++ tail)) = ap length (whole_append front tail) in
     omega (arith, all, length-append (whole front) (whole (rest_of front ++ tail)))
 
+-- the first messages of a front are those of the stream
+short_first_messages : (terms : Terms) (t : DirectoryEntries) (w : Requester) (front tail : List ℕ) (answered : ℕ) → answered ≤ length (whole front) →
+    AreAnsweredShort terms t w (take answered (whole front)) → AreAnsweredShort terms t w (take answered (whole (front ++ tail)))
+short_first_messages terms t w front tail answered fits short =
+    subst (λ (messages : List (List ℕ)). AreAnsweredShort terms t w messages)
+    (sym (ap (take answered) (whole_append front tail) ∙ take-append-le answered (whole front) (whole (rest_of front ++ tail)) fits)) short
+
 -- what is said to a front that closes is said to the stream
 said_front : (terms : Terms) (t : DirectoryEntries) (w : Requester) (front tail : List ℕ) (end : SpeechEnd) (answered : ℕ) → closes_at end ≡ true → answered ≤ length (whole front) →
     (said_to terms (cut_at end answered) t w front).closes ≡ true → said_to terms (cut_at end answered) t w (front ++ tail) ≡ said_to terms (cut_at end answered) t w front
@@ -41,6 +50,14 @@ said_front terms t w front tail StaysOpen answered shut fits closes = absurd (tr
 said_front terms t w front tail Closes answered shut fits closes = speech-front_closed (rules terms) t w front tail closes
 said_front terms t w front tail IsCut answered shut fits closes = speech-front_cut (rules terms) answered t w front tail fits
 said_front terms t w front tail IsFull answered shut fits closes = speech-front_cut (rules terms) answered t w front tail fits
+
+-- the replies to a stream are short where those to a front that closes are
+short_front : (terms : Terms) (t : DirectoryEntries) (w : Requester) (front tail : List ℕ) (end : SpeechEnd) (answered : ℕ) → closes_at end ≡ true → answered ≤ length (whole front) →
+    (said_to terms (cut_at end answered) t w front).closes ≡ true → AreAnsweredShort terms t w (up_to (cut_at end answered) (whole front)) → AreAnsweredShort terms t w (up_to (cut_at end answered) (whole (front ++ tail)))
+short_front terms t w front tail StaysOpen answered shut fits closes short = absurd (true≢false (sym shut))
+short_front terms t w front tail Closes answered shut fits closes short = subst (λ asked. AllByRecursion (IsAnsweredShort terms) asked) (sym (answered-front_closed (rules terms) t w front tail closes)) short
+short_front terms t w front tail IsCut answered shut fits closes short = short_first_messages terms t w front tail answered fits short
+short_front terms t w front tail IsFull answered shut fits closes short = short_first_messages terms t w front tail answered fits short
 
 -- a stream is answered where a front of it is, and closes
 speaks_front : (terms : Terms) (room : ℕ) (t : DirectoryEntries) (w : Requester) (front tail : List ℕ) (old new : Put) (u : DirectoryEntries) (y : Requester) (spoken : Spoken) →
@@ -57,6 +74,7 @@ speaks_front terms room t w front tail old new u y spoken speaks shut =
       full = speaks.full;
       spare = λ count some below. subst (λ (a : Answered DirectoryEntries Requester). length (old.replies ++ a.replies) ≤ room) (sym (speech-front_cut (rules terms) count t w front tail (omega arith))) (speaks.spare count some below);
       complete = more_whole front tail spoken.answered fits;
+      short = short_front terms t w front tail spoken.end spoken.answered shut fits (sym speaks.gives.closed ∙ shut) speaks.short;
       ending = speaks.ending;
       queued = speaks.queued ∙ ap (λ (a : Answered DirectoryEntries Requester). (old.replies ++ a.replies) ++ speaks.ending) (sym (speech-front_cut (rules terms) spoken.answered t w front tail fits));
       notice = speaks.notice;
