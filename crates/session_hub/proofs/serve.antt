@@ -1,5 +1,6 @@
 pub mod LoopLemmas
 pub mod PlayLemmas
+pub mod GivenLemmas
 pub mod CauseLemmas
 pub mod StarveLemmas
 pub mod TurnLemmas

@@ -1,2 +1,3 @@
 pub mod AddingLemmas
+pub mod KeepingLemmas
 pub mod ServingLemmas

@@ -20,6 +20,7 @@ mod requester;
 mod results;
 mod sent;
 mod serve;
+mod server;
 mod serving;
 mod simple;
 mod spoken;

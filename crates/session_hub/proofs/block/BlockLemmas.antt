@@ -1,35 +1,31 @@
--- An event heard, by what a hub makes of it.
-use Rattle.std.proofs.Common.{◌≡◌, ◌≤◌, ◌<◌, ℕ, nat_lt, Bool, true, false, List, [], ◌∷◌, ◌++◌, length, Option, Some, None, Result, Ok, Err, OnOk, OnErr, inr, refl, ap, sym, ◌∙◌, subst, arith, cond}
+-- An event heard, by what a server makes of it.
+use Rattle.std.proofs.Common.{◌≡◌, ◌≤◌, ◌<◌, ℕ, nat_lt, Bool, true, false, List, [], ◌∷◌, ◌++◌, length, Option, Some, None, Result, Ok, Err, OnErr, refl, ap, sym, ◌∙◌, subst, arith, cond}
 use Rattle.std.proofs.lemmas.Bool.Decides.{nat_tests}
-use Rattle.dir_tree.specs.plain_values.Counts.{NeverFalls}
-use Rattle.dir_tree.proofs.plain_values_proofs.Theorems.{NeverFalls-trans, Rose-never_falls}
-use Rattle.session_model.specs.wire_io.declared.answers.Heard.{Heard as Answer}
-use Rattle.session_model.specs.wire_io.declared.answers.NextFault.{NextFault}
-use Rattle.session_model.specs.wire_io.declared.answers.NextFault.TheVariants as fault
-use Rattle.session_model.specs.wire_io.Answers.{RefusalCause}
 use Rattle.session_model.specs.wire_io.declared.journal.Event.{Event as JournalEvent}
 use Rattle.session_model.specs.wire_io.declared.journal.Event.TheVariants as event
 use Rattle.session_model.specs.wire_io.declared.journal.Item.{Item}
 use Rattle.session_model.specs.wire_io.declared.journal.Item.TheVariants as item
 use Rattle.session_model.specs.wire_io.Journal.{opens}
-use Rattle.session_model.specs.wire_io.link.Plan.{Plan}
 use Rattle.session_model.specs.wire_io.link.Telling.{NoteTells}
 use Rattle.session_model.specs.Journaled.{step_of_event}
 use Rattle.session_model.specs.Run.{Opened, Bytes, Ended, most_held}
 use Rattle.session_model.specs.Kept.{Kept, Held, kept_of, heard, forgotten}
 use Rattle.session_model.specs.Serving.{Leads}
-use Rattle.session_model.specs.Working.{Covers, CutsOpen}
-use Rattle.session_model.proofs.Theorems.{opened_leads, works_opened, works_turned, works_bytes, works_ended, works_idle, works_as, works_leads}
+use Rattle.session_model.specs.Working.{Works, Covers, CutsOpen}
+use Rattle.session_model.proofs.Theorems.{opened_leads, works_opened, works_turned, works_bytes, works_ended, works_idle, works_as}
 use Rattle.session_hub.specs.Parties.{DirectoryEntries, Requester}
-use Rattle.session_hub.specs.Terms.{Terms}
 use Rattle.session_hub.specs.Answering.{rules}
 use Rattle.session_hub.specs.hub.Hubs.{HubState, held, Hears, OpensOne}
+use Rattle.session_hub.specs.declared.bounds.Bounds.{Bounds}
 use Rattle.session_hub.specs.declared.event.Event.{Event}
 use Rattle.session_hub.specs.declared.event.Event.TheVariants as came
 use Rattle.session_hub.specs.Event.{new_cut}
 use Rattle.session_hub.specs.Telling.{journal_event_of, IsOf}
-use Rattle.session_hub.specs.Adding.{Adds, BlockRefusal, IsServing, IsHeard, IsTurnedAway, After}
-use Rattle.session_hub.proofs.serving.AddingLemmas.{adds_nothing, adds_one, rose_after}
+use Rattle.session_hub.specs.serve.Servers.{LinkState, ServerState, OnlyHears, rules_of, held_by}
+use Rattle.session_hub.specs.Adding.{AddsItems, IsRight, IsServing, IsHeard, IsTurnedAway}
+use Rattle.session_hub.proofs.hub.UnkeptLemmas.{event_unkept}
+use Rattle.session_hub.proofs.serving.AddingLemmas.{adds_nothing, adds_one}
+use Rattle.session_hub.proofs.serving.KeepingLemmas.{stays_none}
 use Rattle.session_hub.proofs.serving.ServingLemmas.{block_hung_up}
 
 covers_same : (xs : List ℕ) → Covers xs xs
@@ -38,61 +34,75 @@ covers_same xs = record { covers = λ n h. h }
 pub covers_is : (xs ys : List ℕ) → xs ≡ ys → Covers xs ys
 covers_is xs ys is = subst (λ zs. Covers zs ys) (sym is) (covers_same ys)
 
--- what serves these serves those that are then due, or the journal is right so far
-pub begins_as : {X E : Type 0} (terms : Terms) (result : Result X E) (start : DirectoryEntries) (due now on_hold held_now : List ℕ) (hub : Held DirectoryEntries Requester) (added : List Item) → held_now ≡ on_hold → OnOk result (Covers now due) →
-    IsServing terms start due hub on_hold added → After terms result start hub.tree (IsServing terms start now hub held_now) added
-begins_as terms (Ok value) start due now on_hold held_now hub added stays covers works =
-    subst (λ xs. IsServing terms start now hub xs added) (sym stays) (works_as (rules terms) start due now hub on_hold added covers works)
-begins_as terms (Err fault) start due now on_hold held_now hub added stays covers works = works_leads (rules terms) start due hub on_hold added works
+-- what an event left of a server's hub and directory, where nobody else is due than those that were on hold and one
+pub record Begins (old new : ServerState) (due : List ℕ) : Type 0 where
+  pub bounds : new.hub.bounds ≡ old.hub.bounds
+  pub on_hold : new.on_hold ≡ old.on_hold
+  pub covers : Covers new.due due
+
+-- what serves these serves those that are then due
+begins_as : (entries : DirectoryEntries) (old new : ServerState) (due : List ℕ) (added : List Item) → Begins old new due → Works (rules_of old) entries due (held_by new) old.on_hold added → IsServing entries new added
+begins_as entries old new due added begins works =
+    subst (λ (b : Bounds). Works (rules b.terms) entries new.due (held_by new) new.on_hold added) (sym begins.bounds)
+    (subst (λ xs. Works (rules_of old) entries new.due (held_by new) xs added) (sym begins.on_hold) (works_as (rules_of old) entries due new.due (held_by new) old.on_hold added begins.covers works))
 
 -- a connection has opened, and there is room
-pub opened_goes : {X E : Type 0} (terms : Terms) (result : Result X E) (start : DirectoryEntries) (c : ℕ) (old new : Held DirectoryEntries Requester) (on_hold now held_now : List ℕ) (added : List Item) →
-    Hears terms (came.Opened c) old new → length old.kept < most_held → held_now ≡ on_hold → OnOk result (Covers now (c ∷ on_hold)) → IsHeard terms start old on_hold (event.Opened c) added →
-    After terms result start new.tree (IsServing terms start now new held_now) added
-opened_goes terms result start c old new on_hold now held_now added hears room stays covers h =
-    begins_as terms result start (c ∷ on_hold) now on_hold held_now new added stays covers
-    (subst (λ x. IsServing terms start (c ∷ on_hold) x on_hold added) (sym hears.same)
-    (subst (IsServing terms start (c ∷ on_hold) (heard (rules terms) (Opened c) old) on_hold) (sym h.last)
-    (works_opened (rules terms) start old on_hold on_hold h.before c (h.opens c refl) h.works (covers_same on_hold) (grind (arith, nat_tests)))))
+pub opened_goes : (entries : DirectoryEntries) (c : ℕ) (old : ServerState) (hub : HubState) (tree : DirectoryEntries) (due on_hold : List ℕ) → Hears old.hub.bounds.terms (came.Opened c) (held_by old) (held tree hub) → hub.bounds ≡ old.hub.bounds →
+    length old.hub.kept < most_held → on_hold ≡ old.on_hold → Covers due (c ∷ old.on_hold) →
+    AddsItems old.link.plan (IsHeard (event.Opened c) entries old) (IsServing entries (record old { hub = hub; entries = tree; due = due; on_hold = on_hold })) old.link.journal old.link.journal
+opened_goes entries c old hub tree due on_hold hears bounds room stays covers =
+    let left : ServerState = record old { hub = hub; entries = tree; due = due; on_hold = on_hold } in
+    adds_nothing old.link.plan (IsHeard (event.Opened c) entries old) (IsServing entries left) old.link.journal old.link.journal refl
+    (λ added h. begins_as entries old left (c ∷ old.on_hold) added (record { bounds = bounds; on_hold = stays; covers = covers })
+    (subst (λ x. Works (rules_of old) entries (c ∷ old.on_hold) x old.on_hold added) (sym hears.same)
+    (subst (Works (rules_of old) entries (c ∷ old.on_hold) (heard (rules_of old) (Opened c) (held_by old)) old.on_hold) (sym h.last)
+    (works_opened (rules_of old) entries (held_by old) old.on_hold old.on_hold h.before c (h.opens c refl) h.works (covers_same old.on_hold) (grind (arith, nat_tests))))))
 
 -- there was no memory to hold it
-pub opened_starved : (terms : Terms) (start : DirectoryEntries) (c : ℕ) (old new : Held DirectoryEntries Requester) (on_hold : List ℕ) (added : List Item) → new ≡ old → IsHeard terms start old on_hold (event.Opened c) added →
-    Leads (rules terms) start new.tree added
-opened_starved terms start c old new on_hold added same h =
-    subst (λ (x : Held DirectoryEntries Requester). Leads (rules terms) start x.tree added) (sym same)
-    (subst (Leads (rules terms) start old.tree) (sym h.last) (opened_leads (rules terms) start old on_hold h.before c (h.opens c refl) h.works))
+pub opened_starved : (entries : DirectoryEntries) (c : ℕ) (old : ServerState) (hub : HubState) (tree : DirectoryEntries) → held tree hub ≡ held_by old → hub.bounds ≡ old.hub.bounds →
+    AddsItems old.link.plan (IsHeard (event.Opened c) entries old) (IsRight entries (record old { hub = hub; entries = tree })) old.link.journal old.link.journal
+opened_starved entries c old hub tree same bounds =
+    adds_nothing old.link.plan (IsHeard (event.Opened c) entries old) (IsRight entries (record old { hub = hub; entries = tree })) old.link.journal old.link.journal refl
+    (λ added h. subst (λ (b : Bounds). Leads (rules b.terms) entries tree added) (sym bounds)
+    (subst (λ (x : Held DirectoryEntries Requester). Leads (rules_of old) entries x.tree added) (sym same)
+    (subst (Leads (rules_of old) entries old.entries) (sym h.last) (opened_leads (rules_of old) entries (held_by old) old.on_hold h.before c (h.opens c refl) h.works))))
 
 -- there is no room, and it is hung up
-turned_leads : (terms : Terms) (start : DirectoryEntries) (c : ℕ) (hub : HubState) (tree : DirectoryEntries) (on_hold : List ℕ) (added : List Item) → IsTurnedAway terms start c (held tree hub) on_hold added → Leads (rules terms) start tree added
+turned_leads : (entries : DirectoryEntries) (c : ℕ) (server : ServerState) (added : List Item) → IsTurnedAway c entries server added → IsRight entries server added
 unfolding heard
-turned_leads terms start c hub tree on_hold added turned =
-    subst (λ x. Leads (rules terms) start x added) (sym (ap (λ (x : Held DirectoryEntries Requester). x.tree) turned.same))
-    (subst (Leads (rules terms) start turned.old.tree) (sym turned.heard.last) (opened_leads (rules terms) start turned.old on_hold turned.heard.before c (turned.heard.opens c refl) turned.heard.works))
+turned_leads entries c server added turned =
+    subst (λ x. Leads (rules_of server) entries x added) (sym (ap (λ (x : Held DirectoryEntries Requester). x.tree) turned.same))
+    (subst (λ (b : Bounds). Leads (rules b.terms) entries turned.old.entries added) (sym turned.bounds)
+    (subst (Leads (rules_of turned.old) entries turned.old.entries) (sym turned.heard.last) (opened_leads (rules_of turned.old) entries (held_by turned.old) turned.old.on_hold turned.heard.before c (turned.heard.opens c refl) turned.heard.works)))
 
-turned_works : (terms : Terms) (start : DirectoryEntries) (c : ℕ) (hub now : HubState) (tree : DirectoryEntries) (on_hold : List ℕ) (added : List Item) → now ≡ record hub { kept = forgotten c hub.kept } →
-    IsTurnedAway terms start c (held tree hub) on_hold added → IsServing terms start on_hold (held tree now) on_hold (added ++ item.HungUp c ∷ [])
-turned_works terms start c hub now tree on_hold added is turned =
-    subst (λ h. IsServing terms start on_hold (held tree h) on_hold (added ++ item.HungUp c ∷ [])) (sym is)
-    (subst (λ (x : Held DirectoryEntries Requester). IsServing terms start on_hold (record x { kept = forgotten c x.kept }) on_hold (added ++ item.HungUp c ∷ [])) (sym turned.same)
-    (subst (λ j. IsServing terms start on_hold (let x = heard (rules terms) (Opened c) turned.old in record x { kept = forgotten c x.kept }) on_hold (j ++ item.HungUp c ∷ [])) (sym turned.heard.last)
-    (works_turned (rules terms) start turned.old on_hold on_hold turned.heard.before c (turned.heard.opens c refl) turned.heard.works (covers_same on_hold) (no_room (length turned.old.kept) turned.full))))
+turned_works : (entries : DirectoryEntries) (c : ℕ) (server : ServerState) (added : List Item) → IsTurnedAway c entries server added →
+    Works (rules_of server) entries server.on_hold (let x = held_by server in record x { kept = forgotten c x.kept }) server.on_hold (added ++ item.HungUp c ∷ [])
+turned_works entries c server added turned =
+    let on_hold = turned.old.on_hold in
+    subst (λ xs. Works (rules_of server) entries xs (let x = held_by server in record x { kept = forgotten c x.kept }) xs (added ++ item.HungUp c ∷ [])) (sym turned.on_hold)
+    (subst (λ (x : Held DirectoryEntries Requester). Works (rules_of server) entries on_hold (record x { kept = forgotten c x.kept }) on_hold (added ++ item.HungUp c ∷ [])) (sym turned.same)
+    (subst (λ (b : Bounds). Works (rules b.terms) entries on_hold (let x = heard (rules b.terms) (Opened c) (held_by turned.old) in record x { kept = forgotten c x.kept }) on_hold (added ++ item.HungUp c ∷ [])) (sym turned.bounds)
+    (subst (λ j. Works (rules_of turned.old) entries on_hold (let x = heard (rules_of turned.old) (Opened c) (held_by turned.old) in record x { kept = forgotten c x.kept }) on_hold (j ++ item.HungUp c ∷ [])) (sym turned.heard.last)
+    (works_turned (rules_of turned.old) entries (held_by turned.old) on_hold on_hold turned.heard.before c (turned.heard.opens c refl) turned.heard.works (covers_same on_hold) (no_room (length turned.old.hub.kept) turned.full)))))
   where
     no_room : (n : ℕ) → most_held ≤ n → nat_lt n most_held ≡ false
     no_room n full = grind (arith, nat_tests)
 
-pub turned_goes : {X E : Type 0} (terms : Terms) (F : Type 0) (plan : Option Plan) (result : Result X E) (start tree : DirectoryEntries) (c : ℕ) (hub now : HubState) (on_hold due held_now : List ℕ) (before after : Option (List Item)) (done : Unit {0}) →
-    NoteTells {T = Unit {0}} {E = F} before (item.HungUp c) (Ok done) after → now ≡ record hub { kept = forgotten c hub.kept } → held_now ≡ on_hold → OnOk result (Covers due on_hold) →
-    Adds plan (IsTurnedAway terms start c (held tree hub) on_hold) (After terms result start tree (IsServing terms start due (held tree now) held_now)) before after
+pub turned_goes : (E : Type 0) (entries : DirectoryEntries) (c : ℕ) (old : ServerState) (now : HubState) (due on_hold : List ℕ) (link : LinkState) (done : Unit {0}) →
+    NoteTells {T = Unit {0}} {E = E} old.link.journal (item.HungUp c) (Ok done) link.journal → now ≡ record old.hub { kept = forgotten c old.hub.kept } → on_hold ≡ old.on_hold → Covers due old.on_hold →
+    AddsItems old.link.plan (IsTurnedAway c entries old) (IsServing entries (record old { hub = now; due = due; on_hold = on_hold; link = link })) old.link.journal link.journal
 unfolding NoteTells
-turned_goes terms F plan result start tree c hub now on_hold due held_now before after done tells is stays covers =
-    adds_one plan (IsTurnedAway terms start c (held tree hub) on_hold) (After terms result start tree (IsServing terms start due (held tree now) held_now)) before after (item.HungUp c) tells (block_hung_up plan c)
-    (λ added turned. begins_as terms result start on_hold due on_hold held_now (held tree now) (added ++ item.HungUp c ∷ []) stays covers (turned_works terms start c hub now tree on_hold added is turned))
+turned_goes E entries c old now due on_hold link done tells is stays covers =
+    subst (λ h. AddsItems old.link.plan (IsTurnedAway c entries old) (IsServing entries (record old { hub = h; due = due; on_hold = on_hold; link = link })) old.link.journal link.journal) (sym is)
+    (let left : ServerState = record old { hub = record old.hub { kept = forgotten c old.hub.kept }; due = due; on_hold = on_hold; link = link } in
+    adds_one old.link.plan (IsTurnedAway c entries old) (IsServing entries left) old.link.journal link.journal (item.HungUp c) tells (block_hung_up old.link.plan c)
+    (λ added turned. begins_as entries old left old.on_hold (added ++ item.HungUp c ∷ []) (record { bounds = refl; on_hold = stays; covers = covers }) (turned_works entries c old added turned)))
 
-pub not_turned : {F : Type 0} (terms : Terms) (plan : Option Plan) (start tree : DirectoryEntries) (c : ℕ) (hub : HubState) (on_hold : List ℕ) (before after : Option (List Item)) (fault : F) →
-    NoteTells {T = Unit {0}} {E = F} before (item.HungUp c) (Err fault) after → Adds plan (IsTurnedAway terms start c (held tree hub) on_hold) (Leads (rules terms) start tree) before after
+pub not_turned : {E : Type 0} (entries : DirectoryEntries) (c : ℕ) (old : ServerState) (link : LinkState) (fault : E) →
+    NoteTells {T = Unit {0}} {E = E} old.link.journal (item.HungUp c) (Err fault) link.journal → AddsItems old.link.plan (IsTurnedAway c entries old) (IsRight entries (record old { link = link })) old.link.journal link.journal
 unfolding NoteTells
-not_turned terms plan start tree c hub on_hold before after fault tells =
-    adds_nothing plan (IsTurnedAway terms start c (held tree hub) on_hold) (Leads (rules terms) start tree) before after tells (λ added turned. turned_leads terms start c hub tree on_hold added turned)
+not_turned entries c old link fault tells =
+    adds_nothing old.link.plan (IsTurnedAway c entries old) (IsRight entries (record old { link = link })) old.link.journal link.journal tells (λ added turned. turned_leads entries c old added turned)
 
 -- a cut that is told comes to an open connection
 cuts_open : (c : ℕ) (ks : List (Kept Requester)) (o : Option (Kept Requester)) (cut : Option ℕ) → kept_of c ks ≡ o → CutsOpen c ks (new_cut o cut)
@@ -105,41 +115,55 @@ cuts_open c ks (Some k) cut e = by_closing k.closing refl cut
     by_closing false still (Some n) = rw e (rw still refl)
 
 -- octets of a connection, or their end, begin its block
-bytes_goes : (terms : Terms) (start : DirectoryEntries) (c : ℕ) (octets : List ℕ) (cut : Option ℕ) (old new : Held DirectoryEntries Requester) (on_hold : List ℕ) (added : List Item) → new ≡ heard (rules terms) (Bytes c octets cut) old →
-    CutsOpen c old.kept cut → IsHeard terms start old on_hold (event.Bytes c octets) added → IsServing terms start (c ∷ on_hold) new on_hold added
-bytes_goes terms start c octets cut old new on_hold added is fits h =
-    subst (λ x. IsServing terms start (c ∷ on_hold) x on_hold added) (sym is)
-    (subst (IsServing terms start (c ∷ on_hold) (heard (rules terms) (Bytes c octets cut) old) on_hold) (sym h.last)
-    (works_bytes (rules terms) start old on_hold on_hold h.before c octets cut h.works (covers_same on_hold) fits))
+bytes_goes : (entries : DirectoryEntries) (c : ℕ) (octets : List ℕ) (cut : Option ℕ) (old : ServerState) (new : Held DirectoryEntries Requester) (added : List Item) → new ≡ heard (rules_of old) (Bytes c octets cut) (held_by old) →
+    CutsOpen c old.hub.kept cut → IsHeard (event.Bytes c octets) entries old added → Works (rules_of old) entries (c ∷ old.on_hold) new old.on_hold added
+bytes_goes entries c octets cut old new added is fits h =
+    subst (λ x. Works (rules_of old) entries (c ∷ old.on_hold) x old.on_hold added) (sym is)
+    (subst (Works (rules_of old) entries (c ∷ old.on_hold) (heard (rules_of old) (Bytes c octets cut) (held_by old)) old.on_hold) (sym h.last)
+    (works_bytes (rules_of old) entries (held_by old) old.on_hold old.on_hold h.before c octets cut h.works (covers_same old.on_hold) fits))
 
-ended_goes : (terms : Terms) (start : DirectoryEntries) (c : ℕ) (old new : Held DirectoryEntries Requester) (on_hold : List ℕ) (added : List Item) → new ≡ heard (rules terms) (Ended c) old →
-    IsHeard terms start old on_hold (event.Ended c) added → IsServing terms start (c ∷ on_hold) new on_hold added
-ended_goes terms start c old new on_hold added is h =
-    subst (λ x. IsServing terms start (c ∷ on_hold) x on_hold added) (sym is)
-    (subst (IsServing terms start (c ∷ on_hold) (heard (rules terms) (Ended c) old) on_hold) (sym h.last)
-    (works_ended (rules terms) start old on_hold on_hold h.before c h.works (covers_same on_hold)))
+ended_goes : (entries : DirectoryEntries) (c : ℕ) (old : ServerState) (new : Held DirectoryEntries Requester) (added : List Item) → new ≡ heard (rules_of old) (Ended c) (held_by old) →
+    IsHeard (event.Ended c) entries old added → Works (rules_of old) entries (c ∷ old.on_hold) new old.on_hold added
+ended_goes entries c old new added is h =
+    subst (λ x. Works (rules_of old) entries (c ∷ old.on_hold) x old.on_hold added) (sym is)
+    (subst (Works (rules_of old) entries (c ∷ old.on_hold) (heard (rules_of old) (Ended c) (held_by old)) old.on_hold) (sym h.last)
+    (works_ended (rules_of old) entries (held_by old) old.on_hold old.on_hold h.before c h.works (covers_same old.on_hold)))
 
-event_goes : (terms : Terms) (start : DirectoryEntries) (conn : ℕ) (e : Event) (old new : Held DirectoryEntries Requester) (on_hold : List ℕ) (added : List Item) → IsOf conn e → Hears terms e old new →
-    IsHeard terms start old on_hold (journal_event_of e) added → IsServing terms start (conn ∷ on_hold) new on_hold added
-event_goes terms start conn (came.Opened c) old new on_hold added is_of hears h = absurd is_of
-event_goes terms start conn (came.Bytes c octets) old new on_hold added is_of hears h =
-    subst (λ n. IsServing terms start (n ∷ on_hold) new on_hold added) is_of (bytes_goes terms start c octets.now _ old new on_hold added hears.same (cuts_open c old.kept (kept_of c old.kept) _ refl) h)
-event_goes terms start conn (came.Ended c) old new on_hold added is_of hears h = subst (λ n. IsServing terms start (n ∷ on_hold) new on_hold added) is_of (ended_goes terms start c old new on_hold added hears.same h)
+event_goes : (entries : DirectoryEntries) (conn : ℕ) (e : Event) (old : ServerState) (new : Held DirectoryEntries Requester) (added : List Item) → IsOf conn e → Hears old.hub.bounds.terms e (held_by old) new →
+    IsHeard (journal_event_of e) entries old added → Works (rules_of old) entries (conn ∷ old.on_hold) new old.on_hold added
+event_goes entries conn (came.Opened c) old new added is_of hears h = absurd is_of
+event_goes entries conn (came.Bytes c octets) old new added is_of hears h =
+    subst (λ n. Works (rules_of old) entries (n ∷ old.on_hold) new old.on_hold added) is_of (bytes_goes entries c octets.now _ old new added hears.same (cuts_open c old.hub.kept (kept_of c old.hub.kept) _ refl) h)
+event_goes entries conn (came.Ended c) old new added is_of hears h = subst (λ n. Works (rules_of old) entries (n ∷ old.on_hold) new old.on_hold added) is_of (ended_goes entries c old new added hears.same h)
 
-pub heard_on : {X E : Type 0} (terms : Terms) (result : Result X E) (start : DirectoryEntries) (conn : ℕ) (e : Event) (old new : Held DirectoryEntries Requester) (on_hold now held_now : List ℕ) (added : List Item) → IsOf conn e → Hears terms e old new →
-    held_now ≡ on_hold → OnOk result (Covers now (conn ∷ on_hold)) → IsHeard terms start old on_hold (journal_event_of e) added → After terms result start new.tree (IsServing terms start now new held_now) added
-heard_on terms result start conn e old new on_hold now held_now added is_of hears stays covers h =
-    begins_as terms result start (conn ∷ on_hold) now on_hold held_now new added stays covers (event_goes terms start conn e old new on_hold added is_of hears h)
+pub heard_on : (entries : DirectoryEntries) (conn : ℕ) (e : Event) (old : ServerState) (hub : HubState) (tree : DirectoryEntries) (due on_hold : List ℕ) → IsOf conn e → Hears old.hub.bounds.terms e (held_by old) (held tree hub) →
+    hub.bounds ≡ old.hub.bounds → on_hold ≡ old.on_hold → Covers due (conn ∷ old.on_hold) →
+    AddsItems old.link.plan (IsHeard (journal_event_of e) entries old) (IsServing entries (record old { hub = hub; entries = tree; due = due; on_hold = on_hold })) old.link.journal old.link.journal
+heard_on entries conn e old hub tree due on_hold is_of hears bounds stays covers =
+    let left : ServerState = record old { hub = hub; entries = tree; due = due; on_hold = on_hold } in
+    adds_nothing old.link.plan (IsHeard (journal_event_of e) entries old) (IsServing entries left) old.link.journal old.link.journal refl
+    (λ added h. begins_as entries old left (conn ∷ old.on_hold) added (record { bounds = bounds; on_hold = stays; covers = covers }) (event_goes entries conn e old (held tree hub) added is_of hears h))
+
+-- nothing is to be stored of an event where no changes are kept
+pub hears_unkept : (e : Event) (old : ServerState) (hub : HubState) (tree : DirectoryEntries) (due on_hold : List ℕ) → Hears old.hub.bounds.terms e (held_by old) (held tree hub) → hub.bounds ≡ old.hub.bounds →
+    OnlyHears old (record old { hub = hub; entries = tree; due = due; on_hold = on_hold })
+hears_unkept e old hub tree due on_hold hears bounds =
+    let stays = stays_none old in
+    record {
+      stays = record { borrows = refl; bounds = bounds; plan = refl; faults = refl; lost = stays.lost; refusals = stays.refusals };
+      store_faults = refl;
+      unkept = λ off. event_unkept old.hub.bounds.terms e (held_by old) (held tree hub) hears off;
+    }
 
 -- an event that is no step
-pub idle_goes : {X E : Type 0} (terms : Terms) (plan : Option Plan) (result : Result X E) (start : DirectoryEntries) (e shown : JournalEvent) (hub : Held DirectoryEntries Requester) (on_hold now held_now : List ℕ) (journal : Option (List Item)) → shown ≡ e →
-    step_of_event e ≡ [] → ((d : ℕ) → opens d (item.Heard e) ≡ false) → held_now ≡ on_hold → OnOk result (Covers now on_hold) →
-    Adds plan (IsHeard terms start hub on_hold shown) (After terms result start hub.tree (IsServing terms start now hub held_now)) journal journal
-idle_goes terms plan result start e shown hub on_hold now held_now journal is none no_opening stays covers =
-    adds_nothing plan (IsHeard terms start hub on_hold shown) (After terms result start hub.tree (IsServing terms start now hub held_now)) journal journal refl
-    (λ added h. begins_as terms result start on_hold now on_hold held_now hub added stays covers
-    (subst (λ j. IsServing terms start on_hold hub on_hold j) (sym (h.last ∙ ap (λ x. h.before ++ item.Heard x ∷ []) is))
-    (works_idle (rules terms) start hub on_hold on_hold h.before e none no_opening h.works (covers_same on_hold))))
+pub idle_goes : (entries : DirectoryEntries) (e shown : JournalEvent) (old : ServerState) (due on_hold : List ℕ) → shown ≡ e → step_of_event e ≡ [] → ((d : ℕ) → opens d (item.Heard e) ≡ false) → on_hold ≡ old.on_hold → Covers due old.on_hold →
+    AddsItems old.link.plan (IsHeard shown entries old) (IsServing entries (record old { due = due; on_hold = on_hold })) old.link.journal old.link.journal
+idle_goes entries e shown old due on_hold is none no_opening stays covers =
+    let left : ServerState = record old { due = due; on_hold = on_hold } in
+    adds_nothing old.link.plan (IsHeard shown entries old) (IsServing entries left) old.link.journal old.link.journal refl
+    (λ added h. begins_as entries old left old.on_hold added (record { bounds = refl; on_hold = stays; covers = covers })
+    (subst (λ j. Works (rules_of old) entries old.on_hold (held_by old) old.on_hold j) (sym (h.last ∙ ap (λ x. h.before ++ item.Heard x ∷ []) is))
+    (works_idle (rules_of old) entries (held_by old) old.on_hold old.on_hold h.before e none no_opening h.works (covers_same old.on_hold))))
 
 pub opens_none-ready : (c d : ℕ) → opens d (item.Heard (event.Ready c)) ≡ false
 unfolding opens
@@ -154,9 +178,9 @@ unfolding opens
 opens_none-stop d = refl
 
 -- what was added for an event was added for an answer that tells it
-pub as_heard : (terms : Terms) (plan : Option Plan) (start : DirectoryEntries) (hub : Held DirectoryEntries Requester) (on_hold : List ℕ) (e shown : JournalEvent) (Q : List Item → Type 0) (a b : Option (List Item)) → shown ≡ e →
-    Adds plan (IsHeard terms start hub on_hold e) Q a b → Adds plan (IsHeard terms start hub on_hold shown) Q a b
-as_heard terms plan start hub on_hold e shown Q a b is adds = subst (λ x. Adds plan (IsHeard terms start hub on_hold x) Q a b) (sym is) adds
+pub as_heard : (entries : DirectoryEntries) (old : ServerState) (e shown : JournalEvent) (Q : List Item → Type 0) (after : Option (List Item)) → shown ≡ e →
+    AddsItems old.link.plan (IsHeard e entries old) Q old.link.journal after → AddsItems old.link.plan (IsHeard shown entries old) Q old.link.journal after
+as_heard entries old e shown Q after is adds = subst (λ x. AddsItems old.link.plan (IsHeard x entries old) Q old.link.journal after) (sym is) adds
 
 -- octets and their end open no connection
 pub nothing_opens : (conn : ℕ) (e : Event) (kept : List (Kept Requester)) → IsOf conn e → OpensOne e kept → ⊥
@@ -165,9 +189,19 @@ nothing_opens conn (came.Bytes c octets) kept is_of opens_one = opens_one
 nothing_opens conn (came.Ended c) kept is_of opens_one = opens_one
 
 -- a connection has opened, and there is no room
-pub turns_away : (terms : Terms) (start : DirectoryEntries) (c : ℕ) (old new : Held DirectoryEntries Requester) (on_hold : List ℕ) (added : List Item) → Hears terms (came.Opened c) old new → most_held ≤ length old.kept →
-    IsHeard terms start old on_hold (event.Opened c) added → IsTurnedAway terms start c new on_hold added
-turns_away terms start c old new on_hold added hears full h = record { old = old; heard = h; full = full; same = hears.same }
+pub turns_away : (entries : DirectoryEntries) (c : ℕ) (old : ServerState) (hub : HubState) (tree : DirectoryEntries) → Hears old.hub.bounds.terms (came.Opened c) (held_by old) (held tree hub) → hub.bounds ≡ old.hub.bounds →
+    most_held ≤ length old.hub.kept → AddsItems old.link.plan (IsHeard (event.Opened c) entries old) (IsTurnedAway c entries (record old { hub = hub; entries = tree })) old.link.journal old.link.journal
+turns_away entries c old hub tree hears bounds full =
+    let left : ServerState = record old { hub = hub; entries = tree } in
+    adds_nothing old.link.plan (IsHeard (event.Opened c) entries old) (IsTurnedAway c entries left) old.link.journal old.link.journal refl
+    (λ added h. record {
+      old = old;
+      heard = h;
+      full = full;
+      same = subst (λ (b : Bounds). held tree hub ≡ heard (rules b.terms) (Opened c) (held_by old)) (sym bounds) hears.same;
+      bounds = bounds;
+      on_hold = refl;
+    })
 
 -- what is said of want of memory holds anyway, or there is none
 pub opens_any : {X E : Type 0} (result : Result X E) (P : Type 0) → P → OnErr result P
@@ -177,10 +211,3 @@ opens_any (Err fault) P holds = holds
 pub opens_none : {X E : Type 0} (result : Result X E) (P : Type 0) → OnErr result ⊥ → OnErr result P
 opens_none (Ok value) P never = tt
 opens_none (Err fault) P never = absurd never
-
--- a block ends for want of memory where its event opened a connection, or where the link had none
-pub block_refused : {X : Type 0} (given : Answer) (first before after : ℕ) (result : Result X NextFault) → NeverFalls first before → RefusalCause before after result → BlockRefusal given first after result
-unfolding RefusalCause
-block_refused given first before after (Ok value) kept cause = NeverFalls-trans kept cause
-block_refused given first before after (Err fault.Failed) kept cause = NeverFalls-trans kept cause
-block_refused given first before after (Err fault.NoMemory) kept cause = let rise = rose_after kept cause in (Rose-never_falls rise, inr rise)

@@ -1,16 +1,13 @@
 -- Why a loop ended, by the link's counts of faults.
-use Rattle.std.specs.Prelude.{IfSome}
-use Rattle.std.proofs.Common.{◌≡◌, ℕ, Bool, true, false, Option, Some, None, Result, Ok, Err, sym, ◌∙◌, subst, arith}
+use Rattle.std.proofs.Common.{◌≡◌, ℕ, Bool, true, false, Option, Some, None, Err, sym, ◌∙◌, subst, arith}
 use Rattle.dir_tree.specs.plain_values.Counts.{Rose, NeverFalls}
 use Rattle.session_model.specs.wire_io.declared.answers.Heard.{Heard as Answer}
-use Rattle.session_model.specs.wire_io.declared.answers.NextFault.{NextFault}
 use Rattle.session_model.specs.wire_io.declared.answers.NextFault.TheVariants as fault
 use Rattle.session_model.specs.wire_io.Answers.{LinkCause, IsPlanned}
 use Rattle.session_model.specs.wire_io.link.Plan.{Plan}
 use Rattle.session_hub.specs.declared.ended.Ended.{Ended}
 use Rattle.session_hub.specs.declared.ended.Ended.TheVariants as ended
 use Rattle.session_hub.specs.serve.Loops.{EndsFor, MayFail, ends_with}
-use Rattle.session_hub.specs.Adding.{StoreCause}
 use Rattle.session_hub.specs.serve.Turns.{failing_of}
 
 -- what a plan with no failing calls says of a fault
@@ -45,26 +42,11 @@ pub ends_starved : (keeps : Bool) (plan : Option Plan) (before after store_befor
 unfolding EndsFor
 ends_starved keeps plan before after store_before store_after kept store_kept = (never_falls _ _ kept, store_kept)
 
--- when each answer of a call that syncs comes, where changes are kept
-pub cause_of_sync : (keeps : Bool) (plan : Option Plan) (before after : ℕ) (result : Result (Unit {0}) NextFault) → keeps ≡ true → LinkCause plan before after result → StoreCause (keeps ≡ true) plan before after result
-unfolding LinkCause
-cause_of_sync keeps plan before after (Ok answer) kept cause = cause
-cause_of_sync keeps plan before after (Err fault.Failed) kept cause = (cause.0, cause.1, kept)
-cause_of_sync keeps plan before after (Err fault.NoMemory) kept cause = cause
-
 -- the store failed
-pub ends_unstored : (keeps : Bool) (plan : Option Plan) (before after store_before store_after : ℕ) → StoreCause {X = Unit {0}} (keeps ≡ true) plan store_before store_after (Err fault.Failed) → after ≡ before →
+pub ends_unstored : (keeps : Bool) (plan : Option Plan) (before after store_before store_after : ℕ) → Rose store_before store_after × IsPlanned (λ plan. plan.failing) plan × (keeps ≡ true) → after ≡ before →
     EndsFor keeps plan before after store_before store_after ended.StoreFault
 unfolding EndsFor
 ends_unstored keeps plan before after store_before store_after cause kept = (cause.0, kept, may_fail plan cause.1, cause.2)
-
--- the cause of an end is the same where the counts were as they are before the call
-pub ends_synced : (keeps : Bool) (result : Option Ended) (plan now : Option Plan) (first before after store_first store_before store_after : ℕ) → now ≡ plan → before ≡ first → store_before ≡ store_first →
-    IfSome result (EndsFor keeps now before after store_before store_after) → IfSome result (EndsFor keeps plan first after store_first store_after)
-ends_synced keeps result plan now first before after store_first store_before store_after planned kept store_kept cause =
-    subst (λ count. IfSome result (EndsFor keeps plan count after store_first store_after)) kept
-    (subst (λ count. IfSome result (EndsFor keeps plan before after count store_after)) store_kept
-    (subst (λ p. IfSome result (EndsFor keeps p before after store_before store_after)) planned cause))
 
 -- what a plan with no failing calls says of a loop says the same of the plan that it came to
 MayFail-came : (plan now : Option Plan) → failing_of now ≡ failing_of plan → MayFail now → MayFail plan

@@ -13,20 +13,20 @@ use Rattle.session_model.specs.wire_io.Playing.{NextPlays}
 use Rattle.session_model.specs.wire_io.link.Plan.{Plan}
 use Rattle.session_model.proofs.wire_io_proofs.Theorems.{heard-append}
 use Rattle.session_model.specs.Run.{run}
-use Rattle.session_model.specs.Kept.{Held}
 use Rattle.session_model.specs.Journaled.{steps_of, all_taken}
 use Rattle.session_model.specs.Serving.{Leads, Served}
+use Rattle.session_model.specs.Working.{Works}
 use Rattle.session_model.specs.Replaying.{IsReplay}
 use Rattle.session_model.proofs.Theorems.{was_opened-append, works_start, works_served, works_replayed, works_leads, own_steps}
-use Rattle.session_hub.specs.Parties.{DirectoryEntries, Requester}
+use Rattle.session_hub.specs.Parties.{DirectoryEntries}
 use Rattle.session_hub.specs.Terms.{Terms}
-use Rattle.session_hub.specs.declared.bounds.Bounds.{Bounds}
 use Rattle.session_hub.specs.declared.ended.Ended.{Ended}
 use Rattle.session_hub.specs.declared.ended.Ended.TheVariants as ended
 use Rattle.session_hub.specs.Answering.{rules}
-use Rattle.session_hub.specs.hub.Hubs.{held, no_hub}
-use Rattle.session_hub.specs.serve.Loops.{Serves, ServesAll, IsServed, EndsAt, ends_with}
-use Rattle.session_hub.specs.Adding.{Adds, IsServing, IsHeard, stops_with}
+use Rattle.session_hub.specs.hub.Hubs.{HubState, held, no_hub}
+use Rattle.session_hub.specs.serve.Loops.{Serves, ServesAll, IsServed, ends_with}
+use Rattle.session_hub.specs.serve.Servers.{LinkState, ServerState, rules_of, held_by}
+use Rattle.session_hub.specs.Adding.{AddsItems, Goes, IsRight, IsOver, IsHeard, stops_with}
 use Rattle.session_hub.specs.serve.Turns.{Ran, Running, failing_of}
 use Rattle.session_hub.proofs.serving.AddingLemmas.{was_stopped-both}
 
@@ -75,9 +75,9 @@ comes begun added buf given before after is tells =
     }
 
 -- an event heard before its block
-heard_now : (terms : Terms) (entries : DirectoryEntries) (begun added : List Item) (e : Event) (after : Option (List Item)) (hub : Held DirectoryEntries Requester) (on_hold : List ℕ) → Comes begun added e after →
-    IsServing terms entries [] hub on_hold added → IsHeard terms entries hub on_hold e (added ++ item.Heard e ∷ [])
-heard_now terms entries begun added e after hub on_hold came works = record { before = added; last = refl; opens = came.opens; works = works }
+heard_now : (entries : DirectoryEntries) (begun added : List Item) (e : Event) (after : Option (List Item)) (server : ServerState) (link : LinkState) → Comes begun added e after →
+    IsOver entries server added → IsHeard e entries (record server { link = link }) (added ++ item.Heard e ∷ [])
+heard_now entries begun added e after server link came works = record { before = added; last = refl; opens = came.opens; works = works }
 
 -- the event is the last that was heard
 heard_last : (added more : List Item) (e : Event) → heard more ≡ [] → heard ((added ++ item.Heard e ∷ []) ++ more) ≡ heard added ++ e ∷ []
@@ -103,15 +103,16 @@ pub record Served_on (e : Event) (n : ℕ) (stop : Bool) (Q : List Item → Type
   pub counts : length (heard added) ≡ n + 1
   pub holds : Q added
 
-pub serve_on : (terms : Terms) (entries : DirectoryEntries) (n : ℕ) (stop : Bool) (plan : Option Plan) (before a b after : Option (List Item)) (hub : Held DirectoryEntries Requester) (on_hold : List ℕ) (Q : List Item → Type 0) (buf : List ℕ) (given : Answer) →
-    Running terms entries n before a hub on_hold → NextTells {E = NextFault} a buf (Ok given) b → is_stop (event_of buf given) ≡ stop → Adds plan (IsHeard terms entries hub on_hold (event_of buf given)) Q b after →
-    (begun : List Item) → before ≡ Some begun → (added : List Item) × (after ≡ Some (begun ++ added)) × Served_on (event_of buf given) n stop Q added
-unfolding Running Adds
-serve_on terms entries n stop plan before a b after hub on_hold Q buf given running tells is_one adds begun is =
+pub serve_on : (first old : ServerState) (n : ℕ) (stop : Bool) (link : LinkState) (after : Option (List Item)) (Q : List Item → Type 0) (buf : List ℕ) (given : Answer) →
+    Running first n old → NextTells {E = NextFault} old.link.journal buf (Ok given) link.journal → is_stop (event_of buf given) ≡ stop →
+    AddsItems link.plan (IsHeard (event_of buf given) first.entries (record old { link = link })) Q link.journal after →
+    (begun : List Item) → first.link.journal ≡ Some begun → (added : List Item) × (after ≡ Some (begun ++ added)) × Served_on (event_of buf given) n stop Q added
+unfolding Running AddsItems
+serve_on first old n stop link after Q buf given running tells is_one adds begun is =
     let so = running begun is in
     let added = so.0 in
     let e = event_of buf given in
-    let came = comes begun added buf given a b so.1 tells in
+    let came = comes begun added buf given old.link.journal link.journal so.1 tells in
     let block = adds begun (added ++ item.Heard e ∷ []) came.noted in (
       (added ++ item.Heard e ∷ []) ++ block.0,
       block.1,
@@ -120,128 +121,129 @@ serve_on terms entries n stop plan before a b after hub on_hold Q buf given runn
         last = heard_last added block.0 e block.2.events;
         ends = stopped_more added block.0 e stop so.2.goes_on is_one block.2.stops;
         counts = heard_more added block.0 e n so.2.counts block.2.events;
-        holds = block.3 (heard_now terms entries begun added e b hub on_hold came so.2.works);
+        holds = block.3 (heard_now first.entries begun added e link.journal old link came so.2.works);
       },
     )
 
 -- nothing is heard yet
-pub running_start : (terms : Terms) (bounds : Bounds) (entries : DirectoryEntries) (journal : Option (List Item)) → Running terms entries 0 journal journal (held entries (no_hub bounds)) []
+pub running_start : (first : ServerState) → first.hub ≡ no_hub first.hub.bounds → first.on_hold ≡ [] → Running first 0 first
 unfolding Running was_stopped heard
-running_start terms bounds entries journal begun is = ([], is ∙ ap (λ x. Some x) (sym (append-nil begun)), record { goes_on = refl; counts = refl; works = works_start (rules terms) entries })
+running_start first none free begun is = (
+  [],
+  is ∙ ap (λ x. Some x) (sym (append-nil begun)),
+  record {
+    goes_on = refl;
+    counts = refl;
+    works = subst (λ (h : HubState). Works (rules_of first) first.entries [] (held first.entries h) first.on_hold []) (sym none)
+        (subst (λ xs. Works (rules_of first) first.entries [] (held first.entries (no_hub first.hub.bounds)) xs []) (sym free) (works_start (rules_of first) first.entries));
+  },
+)
+
+-- a call of the link that gives no event
+pub running_kept : (first old new : ServerState) (n : ℕ) → new ≡ record old { link = new.link } → new.link.journal ≡ old.link.journal → Running first n old → Running first n new
+unfolding Running
+running_kept first old new n kept same running begun is =
+    let so = running begun is in
+    (so.0, same ∙ so.1, record { goes_on = so.2.goes_on; counts = so.2.counts; works = subst (λ server. IsOver first.entries server so.0) (sym kept) so.2.works })
 
 -- an event that isn't Stop is heard and served
-pub running_on : (terms : Terms) (entries : DirectoryEntries) (n : ℕ) (plan : Option Plan) (before a b after : Option (List Item)) (hub now : Held DirectoryEntries Requester) (on_hold held_now : List ℕ) (buf : List ℕ) (given : Answer) →
-    Running terms entries n before a hub on_hold → NextTells {E = NextFault} a buf (Ok given) b → is_stop (event_of buf given) ≡ false →
-    Adds plan (IsHeard terms entries hub on_hold (event_of buf given)) (IsServing terms entries [] now held_now) b after → Running terms entries (n + 1) before after now held_now
+pub running_on : (first old new : ServerState) (n : ℕ) (link : LinkState) (buf : List ℕ) (given : Answer) → Running first n old → NextTells {E = NextFault} old.link.journal buf (Ok given) link.journal → is_stop (event_of buf given) ≡ false →
+    Goes (IsHeard (event_of buf given)) IsOver (record old { link = link }) new → Running first (n + 1) new
 unfolding Running
-running_on terms entries n plan before a b after hub now on_hold held_now buf given running tells goes_on adds begun is =
-    let so = serve_on terms entries n false plan before a b after hub on_hold (IsServing terms entries [] now held_now) buf given running tells goes_on adds begun is in
+running_on first old new n link buf given running tells goes_on goes begun is =
+    let so = serve_on first old n false link new.link.journal (IsOver first.entries new) buf given running tells goes_on (goes first.entries) begun is in
     (so.0, so.1, record { goes_on = so.2.ends; counts = so.2.counts; works = so.2.holds })
 
 -- what nobody is due in serves, where nothing was cut
-is_served : (terms : Terms) (entries : DirectoryEntries) (hub : Held DirectoryEntries Requester) (on_hold : List ℕ) (added : List Item) → hub.was_cut ≡ false → IsServing terms entries [] hub on_hold added → IsServed terms entries hub.tree added
-is_served terms entries hub on_hold added none works =
+is_served : (entries : DirectoryEntries) (server : ServerState) (added : List Item) → server.hub.was_cut ≡ false → IsOver entries server added → IsServed server.hub.bounds.terms entries server.entries added
+is_served entries server added none works =
     let own = own_steps added works.steps works.tracks.sound.are (works.tracks.no_cut none) in
     record {
-      served = subst (λ xs. Served (rules terms) entries xs added) own (works_served (rules terms) entries hub on_hold added works);
-      entries_left = works.tracks.keeps.tree ∙ ap (λ u. u.tree) (sym works.tracks.is) ∙ ap (λ xs. (run (rules terms) entries xs).tree) own;
+      served = subst (λ xs. Served (rules_of server) entries xs added) own (works_served (rules_of server) entries (held_by server) server.on_hold added works);
+      entries_left = works.tracks.keeps.tree ∙ ap (λ u. u.tree) (sym works.tracks.is) ∙ ap (λ xs. (run (rules_of server) entries xs).tree) own;
     }
 
-is_replay : (terms : Terms) (entries : DirectoryEntries) (hub : Held DirectoryEntries Requester) (on_hold : List ℕ) (added : List Item) → hub.was_cut ≡ false → IsServing terms entries [] hub on_hold added → all_taken added ≡ true →
-    IsReplay (rules terms) entries (steps_of added) added
-is_replay terms entries hub on_hold added none works all =
-    subst (λ xs. IsReplay (rules terms) entries xs added) (own_steps added works.steps works.tracks.sound.are (works.tracks.no_cut none)) (works_replayed (rules terms) entries hub on_hold added works all)
+is_replay : (entries : DirectoryEntries) (server : ServerState) (added : List Item) → server.hub.was_cut ≡ false → IsOver entries server added → all_taken added ≡ true → IsReplay (rules_of server) entries (steps_of added) added
+is_replay entries server added none works all =
+    subst (λ xs. IsReplay (rules_of server) entries xs added) (own_steps added works.steps works.tracks.sound.are (works.tracks.no_cut none)) (works_replayed (rules_of server) entries (held_by server) server.on_hold added works all)
 
--- an end of the loop that counts so many events, cut or not
-Ends : ℕ → List Item → Ended → Type 0
-Ends turns added end = EndsAt turns added end × (length (heard added) ≤ turns)
+-- the journal is right so far where nobody is due
+pub over_right : (entries : DirectoryEntries) (server : ServerState) (added : List Item) → IsOver entries server added → IsRight entries server added
+over_right entries server added works = works_leads (rules_of server) entries [] (held_by server) server.on_hold added works
 
-serves_stopped : (terms : Terms) (entries : DirectoryEntries) (turns : ℕ) (hub : Held DirectoryEntries Requester) (on_hold : List ℕ) (added : List Item) → was_stopped added ≡ true → length (heard added) ≤ turns →
-    IsServing terms entries [] hub on_hold added → (b : Bool) → hub.was_cut ≡ b → ServesAll terms entries hub.tree turns added (ends_with b ended.Stopped)
-serves_stopped terms entries turns hub on_hold added stops fits works true cut = record { ends = fits; served = works_leads (rules terms) entries [] hub on_hold added works; replayed = λ _. tt }
-serves_stopped terms entries turns hub on_hold added stops fits works false none =
-    record { ends = (stops, fits); served = is_served terms entries hub on_hold added none works; replayed = is_replay terms entries hub on_hold added none works }
+serves_stopped : (entries : DirectoryEntries) (turns : ℕ) (server : ServerState) (added : List Item) → was_stopped added ≡ true → length (heard added) ≤ turns → IsOver entries server added → (b : Bool) → server.hub.was_cut ≡ b →
+    ServesAll server.hub.bounds.terms entries server.entries turns added (ends_with b ended.Stopped)
+serves_stopped entries turns server added stops fits works true cut = record { ends = fits; served = over_right entries server added works; replayed = λ _. tt }
+serves_stopped entries turns server added stops fits works false none = record { ends = (stops, fits); served = is_served entries server added none works; replayed = is_replay entries server added none works }
 
-serves_spent : (terms : Terms) (entries : DirectoryEntries) (turns : ℕ) (hub : Held DirectoryEntries Requester) (on_hold : List ℕ) (added : List Item) → Ran terms entries turns hub on_hold added → (b : Bool) → hub.was_cut ≡ b →
-    ServesAll terms entries hub.tree turns added (ends_with b ended.TurnsSpent)
-serves_spent terms entries turns hub on_hold added ran true cut =
-    record { ends = (let n : length (heard added) ≡ turns = ran.counts in omega arith); served = works_leads (rules terms) entries [] hub on_hold added ran.works; replayed = λ _. tt }
-serves_spent terms entries turns hub on_hold added ran false none =
-    record { ends = (ran.goes_on, ran.counts); served = is_served terms entries hub on_hold added none ran.works; replayed = is_replay terms entries hub on_hold added none ran.works }
+serves_spent : (entries : DirectoryEntries) (turns : ℕ) (server : ServerState) (added : List Item) → Ran entries turns server added → (b : Bool) → server.hub.was_cut ≡ b →
+    ServesAll server.hub.bounds.terms entries server.entries turns added (ends_with b ended.TurnsSpent)
+serves_spent entries turns server added ran true cut = record { ends = (let n : length (heard added) ≡ turns = ran.counts in omega arith); served = over_right entries server added ran.works; replayed = λ _. tt }
+serves_spent entries turns server added ran false none = record { ends = (ran.goes_on, ran.counts); served = is_served entries server added none ran.works; replayed = is_replay entries server added none ran.works }
 
-serves_failed : (terms : Terms) (entries : DirectoryEntries) (n turns : ℕ) (hub : Held DirectoryEntries Requester) (on_hold : List ℕ) (added : List Item) → Ran terms entries n hub on_hold added → n < turns → (b : Bool) → hub.was_cut ≡ b →
-    ServesAll terms entries hub.tree turns added (ends_with b ended.LinkFault)
-serves_failed terms entries n turns hub on_hold added ran below true cut =
-    record { ends = (let m : length (heard added) ≡ n = ran.counts in omega arith); served = works_leads (rules terms) entries [] hub on_hold added ran.works; replayed = λ _. tt }
-serves_failed terms entries n turns hub on_hold added ran below false none =
+serves_failed : (entries : DirectoryEntries) (n turns : ℕ) (server : ServerState) (added : List Item) → Ran entries n server added → n < turns → (b : Bool) → server.hub.was_cut ≡ b →
+    ServesAll server.hub.bounds.terms entries server.entries turns added (ends_with b ended.LinkFault)
+serves_failed entries n turns server added ran below true cut = record { ends = (let m : length (heard added) ≡ n = ran.counts in omega arith); served = over_right entries server added ran.works; replayed = λ _. tt }
+serves_failed entries n turns server added ran below false none =
     record {
       ends = (ran.goes_on, let m : length (heard added) ≡ n = ran.counts in omega arith);
-      served = is_served terms entries hub on_hold added none ran.works;
-      replayed = is_replay terms entries hub on_hold added none ran.works;
+      served = is_served entries server added none ran.works;
+      replayed = is_replay entries server added none ran.works;
     }
 
 -- the turns are spent
-pub running_spent : (terms : Terms) (entries : DirectoryEntries) (turns : ℕ) (before now : Option (List Item)) (hub : Held DirectoryEntries Requester) (on_hold : List ℕ) → Running terms entries turns before now hub on_hold →
-    Serves terms entries hub.tree turns before (ends_with hub.was_cut ended.TurnsSpent) now
+pub running_spent : (first now : ServerState) (turns : ℕ) → Running first turns now → Serves now.hub.bounds.terms first.entries now.entries turns first.link.journal (ends_with now.hub.was_cut ended.TurnsSpent) now.link.journal
 unfolding Running Serves
-running_spent terms entries turns before now hub on_hold running begun is = let so = running begun is in (so.0, so.1, serves_spent terms entries turns hub on_hold so.0 so.2 hub.was_cut refl)
+running_spent first now turns running begun is = let so = running begun is in (so.0, so.1, serves_spent first.entries turns now so.0 so.2 now.hub.was_cut refl)
 
--- the link failed, or there was no memory for an event
-pub running_failed : (terms : Terms) (entries : DirectoryEntries) (n turns : ℕ) (before a now : Option (List Item)) (hub : Held DirectoryEntries Requester) (on_hold : List ℕ) → Running terms entries n before a hub on_hold → now ≡ a → n < turns →
-    Serves terms entries hub.tree turns before (ends_with hub.was_cut ended.LinkFault) now
+-- the link failed
+pub running_failed : (first now : ServerState) (n turns : ℕ) (after : Option (List Item)) → Running first n now → after ≡ now.link.journal → n < turns →
+    Serves now.hub.bounds.terms first.entries now.entries turns first.link.journal (ends_with now.hub.was_cut ended.LinkFault) after
 unfolding Running Serves
-running_failed terms entries n turns before a now hub on_hold running same below begun is =
-    let so = running begun is in (so.0, same ∙ so.1, serves_failed terms entries n turns hub on_hold so.0 so.2 below hub.was_cut refl)
-
-pub running_starved : (terms : Terms) (entries : DirectoryEntries) (n turns : ℕ) (before a now : Option (List Item)) (hub : Held DirectoryEntries Requester) (on_hold : List ℕ) → Running terms entries n before a hub on_hold → now ≡ a → n ≤ turns →
-    Serves terms entries hub.tree turns before ended.NoMemory now
-unfolding Running Serves
-running_starved terms entries n turns before a now hub on_hold running same below begun is =
-    let so = running begun is in
-    (so.0, same ∙ so.1, record { ends = (let m : length (heard so.0) ≡ n = so.2.counts in omega arith); served = works_leads (rules terms) entries [] hub on_hold so.0 so.2.works; replayed = λ _. tt })
+running_failed first now n turns after running same below begun is = let so = running begun is in (so.0, same ∙ so.1, serves_failed first.entries n turns now so.0 so.2 below now.hub.was_cut refl)
 
 -- the answers of a loop whose last block may be unfinished
-pub record IsUnfinished (terms : Terms) (entries left : DirectoryEntries) (turns : ℕ) (end : Ended) : Type 0 where
-  pub serves : (added : List Item) → length (heard added) ≤ turns → Leads (rules terms) entries left added → ServesAll terms entries left turns added end
+pub record IsUnfinished (end : Ended) : Type 0 where
+  pub serves : (terms : Terms) (entries left : DirectoryEntries) (turns : ℕ) (added : List Item) → length (heard added) ≤ turns → Leads (rules terms) entries left added → ServesAll terms entries left turns added end
   pub spends : end ≡ ended.TurnsSpent → ⊥
   pub stops : end ≡ ended.Stopped → ⊥
 
-pub unfinished_starved : (terms : Terms) (entries left : DirectoryEntries) (turns : ℕ) → IsUnfinished terms entries left turns ended.NoMemory
-unfinished_starved terms entries left turns = record { serves = λ added fits leads. record { ends = fits; served = leads; replayed = λ _. tt }; spends = λ h. cc; stops = λ h. cc }
+pub unfinished_starved : IsUnfinished ended.NoMemory
+unfinished_starved = record { serves = λ terms entries left turns added fits leads. record { ends = fits; served = leads; replayed = λ _. tt }; spends = λ h. cc; stops = λ h. cc }
 
-pub unfinished_unstored : (terms : Terms) (entries left : DirectoryEntries) (turns : ℕ) → IsUnfinished terms entries left turns ended.StoreFault
-unfinished_unstored terms entries left turns = record { serves = λ added fits leads. record { ends = fits; served = leads; replayed = λ _. tt }; spends = λ h. cc; stops = λ h. cc }
+pub unfinished_unstored : IsUnfinished ended.StoreFault
+unfinished_unstored = record { serves = λ terms entries left turns added fits leads. record { ends = fits; served = leads; replayed = λ _. tt }; spends = λ h. cc; stops = λ h. cc }
 
--- what was stored could not be had on the disk
-pub running_unfinished : (terms : Terms) (entries : DirectoryEntries) (n turns : ℕ) (end : Ended) (before a now : Option (List Item)) (hub : Held DirectoryEntries Requester) (on_hold : List ℕ) →
-    IsUnfinished terms entries hub.tree turns end → Running terms entries n before a hub on_hold → now ≡ a → n < turns → Serves terms entries hub.tree turns before end now
+-- no event was given in the turn
+pub running_unfinished : (first now : ServerState) (n turns : ℕ) (end : Ended) (after : Option (List Item)) → IsUnfinished end → Running first n now → after ≡ now.link.journal → n ≤ turns →
+    Serves now.hub.bounds.terms first.entries now.entries turns first.link.journal end after
 unfolding Running Serves
-running_unfinished terms entries n turns end before a now hub on_hold unfinished running same below begun is =
-    let so = running begun is in
-    (so.0, same ∙ so.1, unfinished.serves so.0 (let m : length (heard so.0) ≡ n = so.2.counts in omega arith) (works_leads (rules terms) entries [] hub on_hold so.0 so.2.works))
+running_unfinished first now n turns end after unfinished running same below begun is =
+    let so = running begun is in (
+      so.0,
+      same ∙ so.1,
+      unfinished.serves now.hub.bounds.terms first.entries now.entries turns so.0 (let m : length (heard so.0) ≡ n = so.2.counts in omega arith) (over_right first.entries now so.0 so.2.works),
+    )
 
 -- there was no memory within a block, or what changed could not be stored
-pub running_cut : (terms : Terms) (entries left : DirectoryEntries) (n turns : ℕ) (end : Ended) (plan : Option Plan) (before a b after : Option (List Item)) (hub : Held DirectoryEntries Requester) (on_hold : List ℕ) (buf : List ℕ) (given : Answer) →
-    IsUnfinished terms entries left turns end →
-    Running terms entries n before a hub on_hold → NextTells {E = NextFault} a buf (Ok given) b → Adds plan (IsHeard terms entries hub on_hold (event_of buf given)) (Leads (rules terms) entries left) b after → n < turns →
-    Serves terms entries left turns before end after
+pub running_cut : (first old new : ServerState) (n turns : ℕ) (end : Ended) (link : LinkState) (buf : List ℕ) (given : Answer) → IsUnfinished end → Running first n old → NextTells {E = NextFault} old.link.journal buf (Ok given) link.journal →
+    Goes (IsHeard (event_of buf given)) IsRight (record old { link = link }) new → n < turns → Serves new.hub.bounds.terms first.entries new.entries turns first.link.journal end new.link.journal
 unfolding Serves
-running_cut terms entries left n turns end plan before a b after hub on_hold buf given unfinished running tells adds below begun is =
-    let so = serve_on terms entries n (is_stop (event_of buf given)) plan before a b after hub on_hold (Leads (rules terms) entries left) buf given running tells refl adds begun is in
-    (so.0, so.1, unfinished.serves so.0 (let m : length (heard so.0) ≡ n + 1 = so.2.counts in omega arith) so.2.holds)
+running_cut first old new n turns end link buf given unfinished running tells goes below begun is =
+    let so = serve_on first old n (is_stop (event_of buf given)) link new.link.journal (IsRight first.entries new) buf given running tells refl (goes first.entries) begun is in
+    (so.0, so.1, unfinished.serves new.hub.bounds.terms first.entries new.entries turns so.0 (let m : length (heard so.0) ≡ n + 1 = so.2.counts in omega arith) so.2.holds)
 
 is_stop_stop : is_stop event.Stop ≡ true
 unfolding is_stop
 is_stop_stop = refl
 
 -- Stop is heard and its block done
-pub running_stopped : (terms : Terms) (entries : DirectoryEntries) (n turns : ℕ) (plan : Option Plan) (before a b after : Option (List Item)) (hub now : Held DirectoryEntries Requester) (on_hold held_now : List ℕ) (buf : List ℕ) (given : Answer) →
-    Running terms entries n before a hub on_hold → NextTells {E = NextFault} a buf (Ok given) b → event_of buf given ≡ event.Stop →
-    Adds plan (IsHeard terms entries hub on_hold (event_of buf given)) (IsServing terms entries [] now held_now) b after → n < turns → Serves terms entries now.tree turns before (ends_with now.was_cut ended.Stopped) after
+pub running_stopped : (first old new : ServerState) (n turns : ℕ) (link : LinkState) (buf : List ℕ) (given : Answer) → Running first n old → NextTells {E = NextFault} old.link.journal buf (Ok given) link.journal → event_of buf given ≡ event.Stop →
+    Goes (IsHeard (event_of buf given)) IsOver (record old { link = link }) new → n < turns → Serves new.hub.bounds.terms first.entries new.entries turns first.link.journal (ends_with new.hub.was_cut ended.Stopped) new.link.journal
 unfolding Serves
-running_stopped terms entries n turns plan before a b after hub now on_hold held_now buf given running tells stop adds below begun is =
-    let so = serve_on terms entries n true plan before a b after hub on_hold (IsServing terms entries [] now held_now) buf given running tells (ap is_stop stop ∙ is_stop_stop) adds begun is in
-    (so.0, so.1, serves_stopped terms entries turns now held_now so.0 so.2.ends (let m : length (heard so.0) ≡ n + 1 = so.2.counts in omega arith) so.2.holds now.was_cut refl)
+running_stopped first old new n turns link buf given running tells stop goes below begun is =
+    let so = serve_on first old n true link new.link.journal (IsOver first.entries new) buf given running tells (ap is_stop stop ∙ is_stop_stop) (goes first.entries) begun is in
+    (so.0, so.1, serves_stopped first.entries turns new so.0 so.2.ends (let m : length (heard so.0) ≡ n + 1 = so.2.counts in omega arith) so.2.holds new.hub.was_cut refl)
 
 pub next_fails : (E : Type 0) (journal new : Option (List Item)) (buf : List ℕ) (f : E) → NextTells {E = E} journal buf (Err f) new → new ≡ journal
 unfolding NextTells

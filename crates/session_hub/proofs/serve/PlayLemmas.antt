@@ -15,16 +15,13 @@ use Rattle.session_model.specs.wire_io.link.Plan.{Plan}
 use Rattle.session_model.specs.wire_io.Playing.{NextPlays, holds_of, next_turn, front_turn}
 use Rattle.session_model.specs.wire_io.link.Telling.{event_of, NextTells}
 use Rattle.session_model.proofs.wire_io_proofs.Theorems.{heard-append, steps_of-append, Plays-none, Plays-trans, Plays-heard, NextPlays-ok, NextPlays-told, NextPlays-says, SaysOf}
-use Rattle.session_model.specs.Kept.{Held}
 use Rattle.session_model.specs.Journaled.{all_taken}
 use Rattle.session_model.proofs.Theorems.{all_taken-one, works_free, all_taken-both}
-use Rattle.session_hub.specs.Parties.{DirectoryEntries, Requester}
-use Rattle.session_hub.specs.Terms.{Terms}
 use Rattle.session_hub.specs.declared.ended.Ended.{Ended}
 use Rattle.session_hub.specs.declared.ended.Ended.TheVariants as ended
-use Rattle.session_hub.specs.Answering.{rules}
 use Rattle.session_hub.specs.serve.Loops.{PlaysOut, PlayedOut, buffer_length}
-use Rattle.session_hub.specs.Adding.{Adds, IsBlock}
+use Rattle.session_hub.specs.serve.Servers.{LinkState, ServerState, rules_of, held_by}
+use Rattle.session_hub.specs.Adding.{AddsItems, IsBlock}
 use Rattle.session_hub.specs.serve.Turns.{Running, Playing, PlayedSoFar}
 use Rattle.session_hub.proofs.serve.LoopLemmas.{is_stop, one_event, comes}
 
@@ -49,9 +46,9 @@ step_alone event.Idle on_hold events says free goes_on = absurd says
 step_alone event.Stop on_hold events says free goes_on = cc
 
 -- nothing is played yet
-pub playing_start : (journal : Option (List Item)) (plan : Option Plan) → Playing journal plan journal plan
+pub playing_start : (link : LinkState) → Playing link link
 unfolding Playing heard all_taken steps_of
-playing_start journal plan begun begun_plan is planned = (
+playing_start link begun begun_plan is planned = (
   [],
   begun_plan,
   is ∙ ap (λ x. Some x) (sym (append-nil begun)),
@@ -98,22 +95,22 @@ played_more begun added more plan left after buf given so long plays goes_on blo
     }
 
 -- one more event of the plan, in a loop
-pub playing_on : (terms : Terms) (entries : DirectoryEntries) (n : ℕ) (hub : Held DirectoryEntries Requester) (on_hold : List ℕ) (before a b after : Option (List Item)) (plan_before pa pb plan_after : Option Plan) (P Q : List Item → Type 0) (buf : List ℕ) (given : Answer) →
-    Running terms entries n before a hub on_hold → Playing before plan_before a pa → length buf ≡ buffer_length → NextTells {E = NextFault} a buf (Ok given) b → NextPlays {E = NextFault} a pa buf (Ok given) pb →
-    is_stop (event_of buf given) ≡ false → Adds pb P Q b after → plan_after ≡ pb → Playing before plan_before after plan_after
-unfolding Playing Adds Running
-playing_on terms entries n hub on_hold before a b after plan_before pa pb plan_after P Q buf given running playing long tells plays goes_on adds kept begun plan is planned =
+pub playing_on : (first old : ServerState) (n : ℕ) (link after : LinkState) (P Q : List Item → Type 0) (buf : List ℕ) (given : Answer) → Running first n old → Playing first.link old.link → length buf ≡ buffer_length →
+    NextTells {E = NextFault} old.link.journal buf (Ok given) link.journal → NextPlays {E = NextFault} old.link.journal old.link.plan buf (Ok given) link.plan → is_stop (event_of buf given) ≡ false →
+    AddsItems link.plan P Q link.journal after.journal → after.plan ≡ link.plan → Playing first.link after
+unfolding Playing AddsItems Running
+playing_on first old n link after P Q buf given running playing long tells plays goes_on adds kept begun plan is planned =
     let so = playing begun plan is planned in
     let added = so.0 in
     let left = so.1 in
-    let here : NextPlays {E = NextFault} (Some (begun ++ added)) (Some left) buf (Ok given) pb =
-    subst (λ x. NextPlays {E = NextFault} x (Some left) buf (Ok given) pb) so.2 (subst (λ x. NextPlays {E = NextFault} a x buf (Ok given) pb) so.3 plays) in
-    let next = NextPlays-told {E = NextFault} (Some (begun ++ added)) left buf (Ok given) pb here in
-    let came = comes begun added buf given a b so.2 tells in
+    let here : NextPlays {E = NextFault} (Some (begun ++ added)) (Some left) buf (Ok given) link.plan =
+    subst (λ x. NextPlays {E = NextFault} x (Some left) buf (Ok given) link.plan) so.2 (subst (λ x. NextPlays {E = NextFault} old.link.journal x buf (Ok given) link.plan) so.3 plays) in
+    let next = NextPlays-told {E = NextFault} (Some (begun ++ added)) left buf (Ok given) link.plan here in
+    let came = comes begun added buf given old.link.journal link.journal so.2 tells in
     let ran = running begun is in
     let same : ran.0 ≡ added = append_cancel_left begun ran.0 added (same_Some (begun ++ ran.0) (begun ++ added) (sym ran.1 ∙ so.2)) in
     let free : all_taken added ≡ true → (c : ℕ) → is_held c added ≡ false =
-    subst (λ x. all_taken x ≡ true → (c : ℕ) → is_held c x ≡ false) same (λ all. works_free (rules terms) entries hub on_hold ran.0 ran.2.works all) in
+    subst (λ x. all_taken x ≡ true → (c : ℕ) → is_held c x ≡ false) same (λ all. works_free (rules_of old) first.entries (held_by old) old.on_hold ran.0 ran.2.works all) in
     let block = adds begun (added ++ item.Heard (event_of buf given) ∷ []) came.noted in (
       (added ++ item.Heard (event_of buf given) ∷ []) ++ block.0,
       next.0,
@@ -135,19 +132,17 @@ played_to turns begun added plan left end so goes_on counts =
     }
 
 -- the link failed, or there was no memory
-pub plays_ended : (turns : ℕ) (before now : Option (List Item)) (plan_before plan_now : Option Plan) (end : Ended) → Playing before plan_before now plan_now →
-    (end ≡ ended.Stopped → ⊥) → (end ≡ ended.TurnsSpent → ⊥) → PlaysOut turns before plan_before end now plan_now
+pub plays_ended : (turns : ℕ) (first now : LinkState) (end : Ended) → Playing first now → (end ≡ ended.Stopped → ⊥) → (end ≡ ended.TurnsSpent → ⊥) → PlaysOut turns first.journal first.plan end now.journal now.plan
 unfolding Playing PlaysOut
-plays_ended turns before now plan_before plan_now end playing goes_on unspent begun added plan is is_now planned =
+plays_ended turns first now end playing goes_on unspent begun added plan is is_now planned =
     let so = playing begun plan is planned in
     let same : so.0 ≡ added = append_cancel_left begun so.0 added (same_Some (begun ++ so.0) (begun ++ added) (sym so.2 ∙ is_now)) in
     (so.1, so.3, played_to turns begun added plan so.1 end (subst (λ x. PlayedSoFar begun x plan so.1) same so.4) goes_on (λ spent. absurd (unspent spent)))
 
 -- the turns are spent
-pub plays_spent : (terms : Terms) (entries : DirectoryEntries) (turns : ℕ) (before now : Option (List Item)) (plan_before plan_now : Option Plan) (hub : Held DirectoryEntries Requester) (on_hold : List ℕ) (end : Ended) →
-    (end ≡ ended.Stopped → ⊥) → Playing before plan_before now plan_now → Running terms entries turns before now hub on_hold → PlaysOut turns before plan_before end now plan_now
+pub plays_spent : (first now : ServerState) (turns : ℕ) (end : Ended) → (end ≡ ended.Stopped → ⊥) → Playing first.link now.link → Running first turns now → PlaysOut turns first.link.journal first.link.plan end now.link.journal now.link.plan
 unfolding Playing PlaysOut Running
-plays_spent terms entries turns before now plan_before plan_now hub on_hold end goes_on playing running begun added plan is is_now planned =
+plays_spent first now turns end goes_on playing running begun added plan is is_now planned =
     let so = playing begun plan is planned in
     let run = running begun is in
     let same : so.0 ≡ added = append_cancel_left begun so.0 added (same_Some (begun ++ so.0) (begun ++ added) (sym so.2 ∙ is_now)) in
@@ -189,18 +184,18 @@ played_stop turns begun added more plan left after buf given end so long plays s
       steps = λ no_later no_gone free h. absurd (unspent h);
     }
 
-pub plays_stopped : (turns : ℕ) (before a b after : Option (List Item)) (plan_before pa pb plan_after : Option Plan) (P Q : List Item → Type 0) (buf : List ℕ) (given : Answer) (end : Ended) →
-    Playing before plan_before a pa → length buf ≡ buffer_length → NextTells {E = NextFault} a buf (Ok given) b → NextPlays {E = NextFault} a pa buf (Ok given) pb →
-    event_of buf given ≡ event.Stop → Adds pb P Q b after → plan_after ≡ pb → (end ≡ ended.TurnsSpent → ⊥) → PlaysOut turns before plan_before end after plan_after
-unfolding Playing PlaysOut Adds
-plays_stopped turns before a b after plan_before pa pb plan_after P Q buf given end playing long tells plays stop adds kept unspent begun all_added plan is is_now planned =
+pub plays_stopped : (turns : ℕ) (first old link after : LinkState) (P Q : List Item → Type 0) (buf : List ℕ) (given : Answer) (end : Ended) → Playing first old → length buf ≡ buffer_length →
+    NextTells {E = NextFault} old.journal buf (Ok given) link.journal → NextPlays {E = NextFault} old.journal old.plan buf (Ok given) link.plan → event_of buf given ≡ event.Stop →
+    AddsItems link.plan P Q link.journal after.journal → after.plan ≡ link.plan → (end ≡ ended.TurnsSpent → ⊥) → PlaysOut turns first.journal first.plan end after.journal after.plan
+unfolding Playing PlaysOut AddsItems
+plays_stopped turns first old link after P Q buf given end playing long tells plays stop adds kept unspent begun all_added plan is is_now planned =
     let so = playing begun plan is planned in
     let added = so.0 in
     let left = so.1 in
-    let here : NextPlays {E = NextFault} (Some (begun ++ added)) (Some left) buf (Ok given) pb =
-    subst (λ x. NextPlays {E = NextFault} x (Some left) buf (Ok given) pb) so.2 (subst (λ x. NextPlays {E = NextFault} a x buf (Ok given) pb) so.3 plays) in
-    let next = NextPlays-told {E = NextFault} (Some (begun ++ added)) left buf (Ok given) pb here in
-    let came = comes begun added buf given a b so.2 tells in
+    let here : NextPlays {E = NextFault} (Some (begun ++ added)) (Some left) buf (Ok given) link.plan =
+    subst (λ x. NextPlays {E = NextFault} x (Some left) buf (Ok given) link.plan) so.2 (subst (λ x. NextPlays {E = NextFault} old.journal x buf (Ok given) link.plan) so.3 plays) in
+    let next = NextPlays-told {E = NextFault} (Some (begun ++ added)) left buf (Ok given) link.plan here in
+    let came = comes begun added buf given old.journal link.journal so.2 tells in
     let block = adds begun (added ++ item.Heard (event_of buf given) ∷ []) came.noted in
     let now = (added ++ item.Heard (event_of buf given) ∷ []) ++ block.0 in
     let same : now ≡ all_added = append_cancel_left begun now all_added (same_Some (begun ++ now) (begun ++ all_added) (sym block.1 ∙ is_now)) in (
@@ -217,5 +212,6 @@ unfolding NextPlays
 plays_kept E journal None after buf f plays = plays
 plays_kept E journal (Some plan) after buf f plays = plays
 
-pub playing_kept : (before a b : Option (List Item)) (plan_before pa pb : Option Plan) → Playing before plan_before a pa → b ≡ a → pb ≡ pa → Playing before plan_before b pb
-playing_kept before a b plan_before pa pb playing same plan_same = subst (λ x. Playing before plan_before x pb) (sym same) (subst (λ x. Playing before plan_before a x) (sym plan_same) playing)
+pub playing_kept : (first old new : LinkState) → Playing first old → new.journal ≡ old.journal → new.plan ≡ old.plan → Playing first new
+unfolding Playing
+playing_kept first old new playing same planned begun plan is is_plan = let so = playing begun plan is is_plan in (so.0, so.1, same ∙ so.2, planned ∙ so.3, so.4)

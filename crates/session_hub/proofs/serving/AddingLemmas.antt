@@ -1,6 +1,5 @@
 -- Calls of a loop, one after another.
 use Rattle.std.proofs.Common.{◌≡◌, ◌||◌, ◌≤◌, ◌<◌, ◌⊎◌, inl, inr, ℕ, List, [], ◌∷◌, ◌++◌, Option, Some, Result, Ok, Err, OnErr, refl, ap, ap₂, sym, ◌∙◌, subst, append_assoc, append-nil, arith}
-use Rattle.dir_tree.proofs.plain_values_proofs.Theorems.{NeverFalls-trans, NeverFalls-refl}
 use Rattle.dir_tree.specs.plain_values.Counts.{NeverFalls, Rose, last_count}
 use Rattle.session_model.specs.wire_io.declared.journal.Item.{Item}
 use Rattle.session_model.specs.wire_io.Journal.{heard, was_stopped}
@@ -9,7 +8,7 @@ use Rattle.session_model.specs.wire_io.link.Plan.{Plan}
 use Rattle.session_model.proofs.wire_io_proofs.Theorems.{heard-append}
 use Rattle.session_model.specs.Journaled.{all_taken}
 use Rattle.session_model.proofs.Theorems.{all_taken-both}
-use Rattle.session_hub.specs.Adding.{Adds, IsBlock, OnlyServes}
+use Rattle.session_hub.specs.Adding.{AddsItems, IsBlock}
 
 -- what is said of two lists of items in turn
 pub was_stopped-both : (j k : List Item) → was_stopped (j ++ k) ≡ (was_stopped j || was_stopped k)
@@ -30,8 +29,8 @@ block_both plan j k p q =
     }
 
 -- nothing is added
-pub adds_nothing : (plan : Option Plan) (P Q : List Item → Type 0) (before after : Option (List Item)) → after ≡ before → ((added : List Item) → P added → Q added) → Adds plan P Q before after
-unfolding Adds
+pub adds_nothing : (plan : Option Plan) (P Q : List Item → Type 0) (before after : Option (List Item)) → after ≡ before → ((added : List Item) → P added → Q added) → AddsItems plan P Q before after
+unfolding AddsItems
 adds_nothing plan P Q before after same leads begun added is = (
   [],
   same ∙ is ∙ ap (λ x. Some (begun ++ x)) (sym (append-nil added)),
@@ -41,8 +40,8 @@ adds_nothing plan P Q before after same leads begun added is = (
 
 -- one item is added
 pub adds_one : (plan : Option Plan) (P Q : List Item → Type 0) (before after : Option (List Item)) (i : Item) → after ≡ noted before i → IsBlock plan (i ∷ []) →
-    ((added : List Item) → P added → Q (added ++ i ∷ [])) → Adds plan P Q before after
-unfolding Adds
+    ((added : List Item) → P added → Q (added ++ i ∷ [])) → AddsItems plan P Q before after
+unfolding AddsItems
 adds_one plan P Q before after i is_noted block leads begun added is = (
   i ∷ [],
   is_noted ∙ ap (λ x. noted x i) is ∙ ap (λ x. Some x) (append_assoc begun added (i ∷ [])),
@@ -51,8 +50,8 @@ adds_one plan P Q before after i is_noted block leads begun added is = (
 )
 
 -- one call after another
-pub adds_then : (plan : Option Plan) (P Q R : List Item → Type 0) (a b c : Option (List Item)) → Adds plan P Q a b → Adds plan Q R b c → Adds plan P R a c
-unfolding Adds
+pub adds_then : (plan : Option Plan) (P Q R : List Item → Type 0) (a b c : Option (List Item)) → AddsItems plan P Q a b → AddsItems plan Q R b c → AddsItems plan P R a c
+unfolding AddsItems
 adds_then plan P Q R a b c first second begun added is =
     let x = first begun added is in
     let y = second begun (added ++ x.0) x.1 in (
@@ -63,29 +62,15 @@ adds_then plan P Q R a b c first second begun added is =
     )
 
 -- one call after another that left the plan
-pub adds_after : (plan now : Option Plan) (P Q R : List Item → Type 0) (a b c : Option (List Item)) → now ≡ plan → Adds plan P Q a b → Adds now Q R b c → Adds plan P R a c
-adds_after plan now P Q R a b c same first second = adds_then plan P Q R a b c first (subst (λ p. Adds p Q R b c) same second)
+pub adds_after : (plan now : Option Plan) (P Q R : List Item → Type 0) (a b c : Option (List Item)) → now ≡ plan → AddsItems plan P Q a b → AddsItems now Q R b c → AddsItems plan P R a c
+adds_after plan now P Q R a b c same first second = adds_then plan P Q R a b c first (subst (λ p. AddsItems p Q R b c) same second)
 
 -- what holds may be weakened at both ends
 pub adds_as : (plan : Option Plan) (P P' Q Q' : List Item → Type 0) (a b : Option (List Item)) → ((added : List Item) → P' added → P added) → ((added : List Item) → Q added → Q' added) →
-    Adds plan P Q a b → Adds plan P' Q' a b
-unfolding Adds
+    AddsItems plan P Q a b → AddsItems plan P' Q' a b
+unfolding AddsItems
 adds_as plan P P' Q Q' a b first last adds begun added is =
     let x = adds begun added is in (x.0, x.1, x.2, λ holds. last (added ++ x.0) (x.3 (first added holds)))
-
--- calls that serve, one after another
-pub serves_none : {plan : Option Plan} {faults store lost refusals : ℕ} → OnlyServes plan plan faults faults store store lost lost refusals refusals
-serves_none {lost = lost} {refusals = refusals} = record { plan = refl; faults = refl; store_faults = refl; lost = NeverFalls-refl lost; refusals = NeverFalls-refl refusals }
-
-pub serves_then : {p q s : Option Plan} {a b c d e f g h i j k l : ℕ} → OnlyServes p q a b d e g h j k → OnlyServes q s b c e f h i k l → OnlyServes p s a c d f g i j l
-serves_then first second =
-    record {
-      plan = second.plan ∙ first.plan;
-      faults = second.faults ∙ first.faults;
-      store_faults = second.store_faults ∙ first.store_faults;
-      lost = NeverFalls-trans first.lost second.lost;
-      refusals = NeverFalls-trans first.refusals second.refusals;
-    }
 
 -- a count that rose last rose over all
 pub rose_after : {first before after : ℕ} → NeverFalls first before → Rose before after → Rose first after

@@ -5,24 +5,23 @@ use Rattle.session_model.specs.wire_io.declared.journal.Item.{Item}
 use Rattle.session_model.specs.wire_io.Journal.{heard, was_stopped, is_held}
 use Rattle.session_model.specs.wire_io.Pieces.{Plays, steps_of}
 use Rattle.session_model.specs.wire_io.link.Plan.{Plan}
-use Rattle.session_model.specs.Kept.{Held}
 use Rattle.session_model.specs.Journaled.{all_taken}
-use Rattle.session_hub.specs.Parties.{DirectoryEntries, Requester}
-use Rattle.session_hub.specs.Terms.{Terms}
+use Rattle.session_hub.specs.Parties.{DirectoryEntries}
 use Rattle.session_hub.specs.declared.ended.Ended.{Ended}
-use Rattle.session_hub.specs.serve.Loops.{buffer_length, Serves, Starves, PlaysOut}
-use Rattle.session_hub.specs.Adding.{IsServing}
+use Rattle.session_hub.specs.serve.Loops.{buffer_length, Serves, Starves, PlaysOut, EndsFor}
+use Rattle.session_hub.specs.serve.Servers.{LinkState, ServerState}
+use Rattle.session_hub.specs.Adding.{IsOver}
 
 -- so many events were heard, none of them Stop, and nobody is due
-pub record Ran (terms : Terms) (entries : DirectoryEntries) (count : ℕ) (held : Held DirectoryEntries Requester) (on_hold : List ℕ) (added : List Item) : Type 0 where
+pub record Ran (entries : DirectoryEntries) (count : ℕ) (server : ServerState) (added : List Item) : Type 0 where
   pub goes_on : was_stopped added ≡ false
   pub counts : length (heard added) ≡ count
-  pub works : IsServing terms entries [] held on_hold added
+  pub works : IsOver entries server added
 
--- the same of any journal that the link tells
-unfoldable pub Running : Terms → DirectoryEntries → ℕ → Option (List Item) → Option (List Item) → Held DirectoryEntries Requester → List ℕ → Type 0
-Running terms entries count before now held on_hold =
-    (begun : List Item) → before ≡ Some begun → (added : List Item) × (now ≡ Some (begun ++ added)) × Ran terms entries count held on_hold added
+-- the same of any journal that the link told first
+unfoldable pub Running : ServerState → ℕ → ServerState → Type 0
+Running first count now =
+    (begun : List Item) → first.link.journal ≡ Some begun → (added : List Item) × (now.link.journal ≡ Some (begun ++ added)) × Ran first.entries count now added
 
 -- how far a plan has come with a journal
 pub record PlayedSoFar (begun added : List Item) (plan left : Plan) : Type 0 where
@@ -33,38 +32,45 @@ pub record PlayedSoFar (begun added : List Item) (plan left : Plan) : Type 0 whe
   pub taken : plan.later ≡ [] → plan.gone ≡ [] → all_taken added ≡ true
   pub steps : plan.later ≡ [] → plan.gone ≡ [] → ((number : ℕ) → is_held number begun ≡ false) → length (steps_of (heard added)) ≡ length (heard added)
 
--- the same of any plan and journal that a link tells
-unfoldable pub Playing : Option (List Item) → Option Plan → Option (List Item) → Option Plan → Type 0
-Playing before plan_before now plan_now =
-    (begun : List Item) (plan : Plan) → before ≡ Some begun → plan_before ≡ Some plan →
-    (added : List Item) × (left : Plan) × (now ≡ Some (begun ++ added)) × (plan_now ≡ Some left) × PlayedSoFar begun added plan left
+-- the same of any plan and journal that a link told first
+unfoldable pub Playing : LinkState → LinkState → Type 0
+Playing first now =
+    (begun : List Item) (plan : Plan) → first.journal ≡ Some begun → first.plan ≡ Some plan →
+    (added : List Item) × (left : Plan) × (now.journal ≡ Some (begun ++ added)) × (now.plan ≡ Some left) × PlayedSoFar begun added plan left
 
 -- the failing calls of a plan
 abbrev pub failing_of : Option Plan → Option (List ℕ)
 failing_of None = None
 failing_of (Some plan) = Some plan.failing
 
--- how far a loop has come: so many events were heard and served, and they brought the plan on
-pub record IsUnderWay (terms : Terms) (entries : DirectoryEntries) (count : ℕ) (before now : Option (List Item)) (plan_before plan_now : Option Plan) (held : Held DirectoryEntries Requester) (on_hold : List ℕ) : Type 0 where
-  pub running : Running terms entries count before now held on_hold
-  pub playing : Playing before plan_before now plan_now
-  pub failing : failing_of plan_now ≡ failing_of plan_before
+-- how far a loop has come since its server was as it was first: so many events were heard and served, and they brought the plan
+-- on; it has the same directory, link and bounds, no fault was counted, and all changes are stored
+pub record IsUnderWay (first : ServerState) (count : ℕ) (now : ServerState) : Type 0 where
+  pub running : Running first count now
+  pub playing : Playing first.link now.link
+  pub borrows : now.borrows ≡ first.borrows
+  pub bounds : now.hub.bounds ≡ first.hub.bounds
+  pub failing : failing_of now.link.plan ≡ failing_of first.link.plan
+  pub faults : now.link.faults ≡ first.link.faults
+  pub store_faults : now.link.store_faults ≡ first.link.store_faults
+  pub lost : NeverFalls first.link.lost now.link.lost
+  pub refusals : NeverFalls first.link.refusals now.link.refusals
+  pub stored : now.hub.unstored ≡ []
+
+-- a loop of so many turns has ended with this answer
+pub record HasEnded (first : ServerState) (turns : ℕ) (ended : Ended) (last : ServerState) : Type 0 where
+  pub borrows : last.borrows ≡ first.borrows
+  pub served : Serves first.hub.bounds.terms first.entries last.entries turns first.link.journal ended last.link.journal
+  pub plays : PlaysOut turns first.link.journal first.link.plan ended last.link.journal last.link.plan
+  pub cause : EndsFor first.hub.bounds.terms.keeps first.link.plan first.link.faults last.link.faults first.link.store_faults last.link.store_faults ended
+  pub memory : Starves first.hub.bounds.terms first.entries last.entries first.link.journal first.link.refusals ended last.link.journal last.link.refusals
+  pub lost : NeverFalls first.link.lost last.link.lost
+  pub refusals : NeverFalls first.link.refusals last.link.refusals
 
 -- after the turn the loop has come further by one event
-abbrev pub GoesOn : Terms → Option (List Item) → Option Plan → Held DirectoryEntries Requester → List ℕ → Option (List Item) → Option Plan → Held DirectoryEntries Requester → List ℕ → Type 0
-GoesOn terms now plan_now held on_hold after plan_after held_after on_hold_after =
-    (entries : DirectoryEntries) (count : ℕ) (before : Option (List Item)) (plan_before : Option Plan) →
-    IsUnderWay terms entries count before now plan_before plan_now held on_hold → IsUnderWay terms entries (count + 1) before after plan_before plan_after held_after on_hold_after
+abbrev pub GoesOn : ServerState → ServerState → Type 0
+GoesOn old new = (first : ServerState) (count : ℕ) → IsUnderWay first count old → IsUnderWay first (count + 1) new
 
--- where turns are left, the loop ends in this turn with the answer, and leaves these entries
-abbrev pub EndsWith : Terms → Option (List Item) → Option Plan → Held DirectoryEntries Requester → List ℕ → Ended → DirectoryEntries → Option (List Item) → Option Plan → Type 0
-EndsWith terms now plan_now held on_hold ended left after plan_after =
-    (entries : DirectoryEntries) (count turns : ℕ) (before : Option (List Item)) (plan_before : Option Plan) →
-    count < turns → IsUnderWay terms entries count before now plan_before plan_now held on_hold →
-    Serves terms entries left turns before ended after × PlaysOut turns before plan_before ended after plan_after
-
--- a loop that ends so for want of memory has a cause, from however early its link's refusals are counted
-abbrev pub StarvesFrom : Terms → Option (List Item) → Held DirectoryEntries Requester → List ℕ → ℕ → Ended → DirectoryEntries → Option (List Item) → ℕ → Type 0
-StarvesFrom terms now held on_hold refusals ended left after refusals_after =
-    (entries : DirectoryEntries) (count : ℕ) (before : Option (List Item)) (first : ℕ) →
-    Running terms entries count before now held on_hold → NeverFalls first refusals → Starves terms entries left before first ended after refusals_after
+-- where turns are left, the loop ends in this turn with the answer
+abbrev pub EndsWith : ServerState → Ended → ServerState → Type 0
+EndsWith old ended new = (first : ServerState) (count turns : ℕ) → count < turns → IsUnderWay first count old → HasEnded first turns ended new
