@@ -1,3 +1,4 @@
 pub mod FollowingLemmas
 pub mod HubLemmas
+pub mod PieceLemmas
 pub mod UnkeptLemmas

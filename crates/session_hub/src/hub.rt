@@ -14,7 +14,7 @@ ghost use Rattle.session_hub.specs.Twins.{HearsAlike};
 use crate::allowance::Allowance;
 use crate::connection::{Connection, fit};
 use crate::places::{
-    beside, closing_at, cut_at, end_at, forget_at, hear_at, is_at, queue_at, requester_at,
+    beside, closing_at, cut_at, end_at, forget_at, is_at, open_at, queue_at, requester_at,
     take_off, unread_at,
 };
 use crate::{Bounds, Event};
@@ -188,18 +188,14 @@ impl Hub {
         match event {
             Event::Opened(conn) => self.open(conn),
             Event::Bytes(conn, piece) => {
+                let Some(at) = open_at(&self.connections, self.last, conn) else {
+                    return Ok(());
+                };
                 let allowed = self.allowance(conn);
-                let cut = hear_at(
-                    self.alloc,
-                    dir,
-                    &mut self.connections,
-                    &mut self.last,
-                    conn,
-                    piece,
-                    allowed,
-                    &mut self.unstored,
-                );
-                self.was_cut |= cut;
+                self.last = at;
+                let connection = &mut self.connections[at];
+                connection.hear(self.alloc, dir, piece, allowed, &mut self.unstored);
+                self.was_cut |= connection.cut().is_some();
                 Ok(())
             }
             Event::Ended(conn) => {

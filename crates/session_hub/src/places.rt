@@ -1,17 +1,12 @@
 //! Where a connection stands among those held.
 
 ghost use Rattle.std.specs.Prelude.{◌≡◌, ◌≤◌, ◌-◌, ◌^◌, min, length, option_map, MatchOption, None, true};
-ghost use Rattle.dir_tree.specs.tree.Numbered.{entries_of};
 ghost use Rattle.session_model.specs.Kept.{kept_of, is_kept, queue_of, closing_of, cut_of, forgotten, taken_off, changed, closed};
-ghost use Rattle.session_hub.specs.Rooms.{queued_beside, AnswersWithin};
-ghost use Rattle.session_hub.specs.FirstAnswers.{AnswersFirst};
-ghost use Rattle.session_hub.specs.hub.Hubs.{IsAt, IsBounded, AreDistinct, HearsAt, unread_of};
+ghost use Rattle.session_hub.specs.Rooms.{queued_beside};
+ghost use Rattle.session_hub.specs.hub.Hubs.{IsAt, IsShut, IsOpenAt, AreDistinct, unread_of};
 
-use crate::allowance::Allowance;
 use crate::connection::Connection;
 use op_read::acdf_filters::Requester;
-use op_read::directory::Dir;
-use std::alloc::Global;
 
 /// The place of the connection with the number. The place that is guessed is tried first, and then the
 /// one behind it: connections that are heard in turn stand so.
@@ -40,6 +35,19 @@ fn is_number_at(connections: &[Connection], at: usize, number: u32) -> bool
     ensures { result ≡ true → IsAt number at connections.now }
 {
     at < connections.len() && connections[at].number() == number
+}
+
+/// The place of the connection with the number, if it isn't closing.
+pub fn open_at(connections: &[Connection], guess: usize, number: u32) -> Option<usize>
+    requires { AreDistinct connections.now }
+    ensures { MatchOption result (IsShut (kept_of number connections.now)) (λ at. IsOpenAt number at connections.now) }
+{
+    let at = place_of(connections, guess, number)?;
+    if connections[at].is_closing() {
+        None
+    } else {
+        Some(at)
+    }
 }
 
 /// Whether there is a connection with the number.
@@ -128,42 +136,6 @@ pub fn cut_at(connections: &[Connection], guess: usize, number: u32) -> Option<u
     match place_of(connections, guess, number) {
         Some(at) => connections[at].cut(),
         None => None,
-    }
-}
-
-/// The connection with the number hears a piece, unless it is closing, and its place is noted. The
-/// answer says whether it was cut in this.
-pub fn hear_at<D: Dir>(
-    alloc: Global,
-    dir: &mut D,
-    connections: &mut [Connection],
-    place: &mut usize,
-    number: u32,
-    piece: &[u8],
-    allowed: Allowance,
-    changes: &mut Vec<u8>,
-) -> bool
-    requires { AreDistinct connections.old }
-    ensures exact { HearsAt allowed.terms number piece.now
-        (entries_of (D.rows dir.old)) connections.old changes.old.items
-        (entries_of (D.rows dir.new)) connections.new changes.new.items result }
-    ensures bounded { IsBounded connections.old → IsBounded connections.new }
-    ensures distinct { AreDistinct connections.new }
-    ensures room { AnswersWithin allowed.terms allowed.room number piece.now
-        (entries_of (D.rows dir.old)) connections.old connections.new }
-    ensures first { AnswersFirst number piece.now connections.old connections.new }
-{
-    match place_of(connections, *place, number) {
-        None => false,
-        Some(at) => {
-            *place = at;
-            let connection = &mut connections[at];
-            if connection.is_closing() {
-                return false;
-            }
-            connection.hear(alloc, dir, piece, allowed, changes);
-            connection.cut().is_some()
-        }
     }
 }
 

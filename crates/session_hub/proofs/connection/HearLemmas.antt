@@ -19,7 +19,7 @@ use Rattle.session_hub.specs.ShortAnswers.{IsAnsweredShort, AreAnsweredShort}
 use Rattle.session_hub.specs.Answers.{Gives, Speaks, said_to, closes_at, cut_at}
 use Rattle.session_hub.specs.connection.Connections.{HearsPiece, KeepsRest}
 use Rattle.session_hub.specs.connection.Limits.{most_unread}
-use Rattle.session_hub.specs.hub.Hubs.{IsAt, HearsAt}
+use Rattle.session_hub.specs.hub.Hubs.{IsAt, IsShut, HearsAt}
 use Rattle.session_hub.proofs.places.PlaceLemmas.{kept_at_is, changed_at, cut_changed}
 use Rattle.session_hub.proofs.stream.EachLemmas.{all_cut, up_to_none}
 
@@ -124,15 +124,14 @@ ended_bounded terms room t w stream old new u y spoken rest end speaks keeps = b
     by_end IsFull has = subst (λ xs. length xs ≤ most_unread) (sym has.unread) (omega arith)
     by_end IsCut has = subst (λ xs. length xs ≤ most_unread) (sym has.unread) (omega arith)
 
--- a piece for a connection that isn't held, for one that is closing, and for one that is open
-pub hears_nowhere : (terms : Terms) (c : ℕ) (piece : List ℕ) (t : DirectoryEntries) (ks : List (Kept Requester)) (changes : List ℕ) → kept_of c ks ≡ None → HearsAt terms c piece t ks changes t ks changes false
+-- a piece for a connection that isn't held, or is closing, and for one that is open
+pub hears_shut : (terms : Terms) (c : ℕ) (piece : List ℕ) (t : DirectoryEntries) (ks : List (Kept Requester)) (changes : List ℕ) → IsShut (kept_of c ks) → HearsAt terms c piece t ks changes t ks changes false
 unfolding heard answered_of_held
-hears_nowhere terms c piece t ks changes none = record { same = λ b. rw (or-false b, none) refl; short = λ b. rw none tt }
-
-pub hears_closing : (terms : Terms) (c at : ℕ) (piece : List ℕ) (t : DirectoryEntries) (ks : List (Kept Requester)) (changes : List ℕ) (k : Kept Requester) → IsAt c at ks → k ≡ get_or ks at k → k.closing ≡ true →
-    HearsAt terms c piece t ks changes t ks changes false
-unfolding heard answered_of_held
-hears_closing terms c at piece t ks changes k place is shut = record { same = λ b. rw (or-false b, kept_at_is c at ks k place is, shut) refl; short = λ b. rw (kept_at_is c at ks k place is, shut) tt }
+hears_shut terms c piece t ks changes shut = by_kept (kept_of c ks) refl shut
+  where
+    by_kept : (o : Option (Kept Requester)) → kept_of c ks ≡ o → IsShut o → HearsAt terms c piece t ks changes t ks changes false
+    by_kept None none shut = record { same = λ b. rw (or-false b, none) refl; short = λ b. rw none tt }
+    by_kept (Some k) there shut = record { same = λ b. rw (or-false b, there, shut) refl; short = λ b. rw (there, shut) tt }
 
 held_is : (t u : DirectoryEntries) (ks ls : List (Kept Requester)) (b d : Bool) (xs ys : List ℕ) → t ≡ u → ks ≡ ls → b ≡ d → xs ≡ ys →
     ◌≡◌ {A = Held DirectoryEntries Requester} (record { tree = t; kept = ks; was_cut = b; unstored = xs }) (record { tree = u; kept = ls; was_cut = d; unstored = ys })

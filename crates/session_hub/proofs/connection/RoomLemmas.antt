@@ -1,5 +1,5 @@
 -- What waits for a connection that hears a piece, by the room that it has.
-use Rattle.std.proofs.Common.{◌≡◌, ◌≤◌, ◌+◌, ℕ, Bool, true, List, [], ◌++◌, length, drop, set, get_or, Option, Some, None, refl, ap, sym, ◌∙◌, subst, inl, append_assoc, append-nil, length-append, length-drop, arith, true≢false}
+use Rattle.std.proofs.Common.{◌≡◌, ◌≤◌, ◌+◌, ℕ, Bool, true, List, [], ◌++◌, length, drop, set, get_or, Option, Some, refl, ap, sym, ◌∙◌, subst, inl, append_assoc, append-nil, length-append, length-drop, arith, true≢false}
 use Rattle.std.proofs.lemmas.List.{drop-append-le}
 use Rattle.session_model.specs.ldap_msg.Streams.{whole}
 use Rattle.session_model.specs.Rules.{Answered}
@@ -14,7 +14,7 @@ use Rattle.session_hub.specs.declared.spoken.SpeechEnd.{SpeechEnd}
 use Rattle.session_hub.specs.declared.spoken.SpeechEnd.TheVariants.{StaysOpen, Closes, IsCut, IsFull}
 use Rattle.session_hub.specs.Answers.{Speaks, cut_at, said_to}
 use Rattle.session_hub.specs.Rooms.{HasRoom, IsCutBehind, StaysWithin, AnswersWithin, queued_after}
-use Rattle.session_hub.specs.hub.Hubs.{IsAt}
+use Rattle.session_hub.specs.hub.Hubs.{IsAt, IsShut}
 use Rattle.session_hub.proofs.places.PlaceLemmas.{kept_at_is, changed_at, kept_changed}
 
 -- the room of a buffer is that of its queue, and what was taken of it
@@ -73,16 +73,9 @@ stays_starved terms room piece t k now rest same =
       notice = inl refl;
     })
 
--- a piece for a connection that isn't held, for one that is closing, and for one that is open
-pub answers_nowhere : (terms : Terms) (room c : ℕ) (piece : List ℕ) (t : DirectoryEntries) (ks now : List (Kept Requester)) → kept_of c ks ≡ None → AnswersWithin terms room c piece t ks now
-answers_nowhere terms room c piece t ks now none = λ connection there still. absurd (let e : None ≡ Some connection = sym none ∙ there in cc)
-
-pub answers_closing : (terms : Terms) (room c at : ℕ) (piece : List ℕ) (t : DirectoryEntries) (ks now : List (Kept Requester)) (k : Kept Requester) → IsAt c at ks → k ≡ get_or ks at k → k.closing ≡ true →
-    AnswersWithin terms room c piece t ks now
-answers_closing terms room c at piece t ks now k place is shut = λ connection there still.
-    let found : Some k ≡ Some connection = sym (kept_at_is c at ks k place is) ∙ there in
-    let same : k ≡ connection = cc in
-    absurd (true≢false (sym shut ∙ ap (λ (x : Kept Requester). x.closing) same ∙ still))
+-- a piece for a connection that isn't held, or is closing, and for one that is open
+pub answers_shut : (terms : Terms) (room c : ℕ) (piece : List ℕ) (t : DirectoryEntries) (ks now : List (Kept Requester)) → IsShut (kept_of c ks) → AnswersWithin terms room c piece t ks now
+answers_shut terms room c piece t ks now shut = λ connection there still. absurd (true≢false (sym (subst IsShut there shut) ∙ still))
 
 pub answers_open : (terms : Terms) (room c at : ℕ) (piece : List ℕ) (t : DirectoryEntries) (ks : List (Kept Requester)) (k now : Kept Requester) → IsAt c at ks → k ≡ get_or ks at k → now.number ≡ k.number →
     StaysWithin terms room piece t k now → AnswersWithin terms room c piece t ks (set ks at now)

@@ -1,5 +1,5 @@
 -- What a hub holds, and what each step leaves of it.
-use Rattle.std.specs.Prelude.{◌≡◌, ◌<◌, ◌≤◌, ℕ, Bool, false, cond, ◌||◌, List, [], ◌∷◌, ◌++◌, length, take, drop, Option, Some, None, slice_get, slice_set}
+use Rattle.std.specs.Prelude.{◌≡◌, ◌<◌, ◌≤◌, ℕ, Bool, true, false, cond, ◌||◌, List, [], ◌∷◌, ◌++◌, length, take, drop, Option, Some, None, slice_get, slice_set}
 use Rattle.std.specs.List.{AllByRecursion}
 use Rattle.session_model.specs.Run.{Session, Bytes, is_held, most_held}
 use Rattle.session_model.specs.Kept.{Kept, Held, heard, kept_of, is_kept, cut_of, changed}
@@ -84,6 +84,16 @@ pub record IsAt (number at : ℕ) (kept : List (Kept Requester)) : Type 0 where
   pub within : at < length kept
   pub found : slice_get kept at ≡ kept_of number kept
   pub changes : (change : Kept Requester → Kept Requester) (connection : Kept Requester) → kept_of number kept ≡ Some connection → changed number change kept ≡ slice_set kept at (change connection)
+
+-- a connection that isn't held, or is closing
+abbrev pub IsShut : Option (Kept Requester) → Type 0
+IsShut None = Unit {0}
+IsShut (Some connection) = connection.closing ≡ true
+
+-- the connection of the number is at this place, and isn't closing
+pub record IsOpenAt (number at : ℕ) (kept : List (Kept Requester)) : Type 0 where
+  pub place : IsAt number at kept
+  pub still : (connection : Kept Requester) → kept_of number kept ≡ Some connection → connection.closing ≡ false
 
 -- none of the first connections has the number
 pub record NoneBefore (number at : ℕ) (kept : List (Kept Requester)) : Type 0 where
