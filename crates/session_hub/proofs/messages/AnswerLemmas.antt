@@ -1,5 +1,5 @@
 -- What is answered to octets, by the message that they are read as.
-use Rattle.std.proofs.Common.{◌≡◌, ◌⊎◌, ℕ, Bool, true, List, [], ◌++◌, Option, None, Result, Ok, Err, IfOk, OnOk, OnErr, Some, inl, inr, refl, true≢false, sym, ap, ◌∙◌, subst}
+use Rattle.std.proofs.Common.{◌≡◌, ◌⊎◌, ℕ, Bool, true, List, [], ◌++◌, Option, None, Result, Ok, Err, IfOk, OnOk, Some, inl, inr, refl, true≢false, sym, ap, ◌∙◌, subst}
 use Rattle.std.proofs.lemmas.List.{append-nil}
 use Rattle.std.proofs.lemmas.Result.{IfOk-weaker, on_ok_weaker}
 use Rattle.std.proofs.lemmas.Bool.{cases_Bool}

@@ -1,7 +1,7 @@
 -- What holds of each message that is answered.
-use Rattle.std.proofs.Common.{◌≡◌, ℕ, zero, suc, Bool, true, false, cond, List, [], ◌∷◌, take, Option, Some, None, refl, sym, subst}
+use Rattle.std.proofs.Common.{◌≡◌, ℕ, zero, suc, Bool, true, false, cond, List, [], ◌∷◌, take, Option, Some, None, refl}
 use Rattle.std.specs.List.{AllByRecursion}
-use Rattle.session_model.specs.Rules.{Rules, Answered, up_to}
+use Rattle.session_model.specs.Rules.{Rules, up_to}
 use Rattle.session_model.specs.AnsweredMessages.{AnsweredMessage, answered_messages}
 use Rattle.session_model.proofs.Theorems.{one_later}
 

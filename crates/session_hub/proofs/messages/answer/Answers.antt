@@ -1,9 +1,7 @@
-use Rattle.std.proofs.Common.{◌≡◌, ℕ, List, [], Option, Some, refl, sym, ap, ◌∙◌, true≢false}
+use Rattle.std.proofs.Common.{Some, refl}
 use Rattle.dir_tree.specs.tree.Numbered.{entries_of}
 use Rattle.session_hub.specs.SimpleBinds.{message_for}
 use Rattle.session_hub.proofs.messages.AnswerLemmas.{answered_as, alone_as, short_as}
-use Rattle.session_model.specs.ldap_msg.declared.kinds.Message.{Message}
-use Rattle.session_hub.specs.SimpleBinds.{Credentials, simple_in, simple_message}
 use Rattle.session_hub.proofs.messages.BindingLemmas.{anonymous_name, anonymous_found}
 use Rattle.session_hub.proofs.messages.answer.Goals as goal
 
