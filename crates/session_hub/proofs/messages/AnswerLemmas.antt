@@ -1,7 +1,7 @@
 -- What is answered to octets, by the message that they are read as.
-use Rattle.std.proofs.Common.{◌≡◌, ◌⊎◌, ℕ, Bool, true, List, [], ◌++◌, Option, None, Result, Ok, Err, IfOk, OnOk, OnErr, Some, inl, inr, refl, true≢false, sym, ap, ◌∙◌, subst}
+use Rattle.std.proofs.Common.{◌≡◌, ◌⊎◌, ℕ, Bool, true, List, [], ◌++◌, Option, None, Result, Ok, Err, IfOk, OnOk, Some, inl, inr, refl, true≢false, sym, ap, ◌∙◌, subst}
 use Rattle.std.proofs.lemmas.List.{append-nil}
-use Rattle.std.proofs.lemmas.Result.{IfOk-weaker}
+use Rattle.std.proofs.lemmas.Result.{IfOk-weaker, on_ok_weaker}
 use Rattle.std.proofs.lemmas.Bool.{cases_Bool}
 use Rattle.session_model.specs.ldap_msg.declared.kinds.Control.{Control}
 use Rattle.session_model.specs.ldap_msg.declared.kinds.Request.{Request}
@@ -21,6 +21,7 @@ use Rattle.session_hub.specs.Terms.{Terms}
 use Rattle.session_hub.specs.Outgoing.{Put}
 use Rattle.session_hub.specs.Answers.{Gives}
 use Rattle.session_hub.specs.Limiting.{limited_read}
+use Rattle.session_hub.specs.ShortAnswers.{IsShortAnswer, IsAnsweredShort}
 use Rattle.session_hub.specs.Answering.{searched, sent_octets, answer_octets, answered, is_unbind, answer_read, rules}
 
 -- a message, or octets that are none, answered by the rules
@@ -53,6 +54,19 @@ refused_as terms r entries who bytes old new changes is h =
     (λ closes. Gives ((rules terms).answer entries who bytes) (record { replies = old; changes = changes }) (record { replies = new; changes = changes }) entries who closes)
     (λ closes gives. subst (λ m. Gives (answer_read terms.keeps entries who m) (record { replies = old; changes = changes }) (record { replies = new; changes = changes }) entries who closes)
     (ap (limited_read terms.limit) (sym is)) (gives terms.keeps changes entries who)) h
+
+-- the replies to octets are short where those to what they are read as are
+pub short_as : {E : Type 0} (terms : Terms) (r : Result Bool E) (o now : Option Message) (entries : DirectoryEntries) (who : Requester) (bytes : List ℕ) → message_of bytes ≡ o → now ≡ limited_read terms.limit o →
+    OnOk r (IsShortAnswer entries who now) → OnOk r (IsAnsweredShort terms (record { tree = entries; who = who; message = bytes }))
+unfolding IsAnsweredShort
+short_as terms r o now entries who bytes is is_now h =
+    on_ok_weaker r (λ short. subst (λ (read : Option Message). IsShortAnswer entries who read) (is_now ∙ ap (limited_read terms.limit) (sym is)) short) h
+
+pub short_notice : {E : Type 0} (terms : Terms) (r : Result Bool E) (entries : DirectoryEntries) (who : Requester) (bytes : List ℕ) → message_of bytes ≡ None →
+    OnOk r (IsAnsweredShort terms (record { tree = entries; who = who; message = bytes }))
+unfolding IsAnsweredShort
+short_notice terms (Ok closes) entries who bytes is = subst (λ (read : Option Message). IsShortAnswer entries who (limited_read terms.limit read)) (sym is) tt
+short_notice terms (Err fault) entries who bytes is = tt
 
 -- a request that closes is an unbind, to which nothing is said
 unbind_says : (id : ℕ) (controls : List Control) (entries : DirectoryEntries) (who : Requester) (asked : Request) → is_unbind asked ≡ true →

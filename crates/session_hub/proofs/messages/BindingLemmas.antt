@@ -3,7 +3,7 @@ use Rattle.std.proofs.Common.{◌≡◌, ℕ, List, [], Option, Some, None, sym,
 use Rattle.session_model.specs.ldap_msg.declared.kinds.Message.{Message}
 use Rattle.session_model.specs.ldap_msg.reading.Messages.{message_of}
 use Rattle.session_hub.specs.declared.simple.SimpleBind.{SimpleBind}
-use Rattle.session_hub.specs.SimpleBinds.{Credentials, simple_message, message_for, simple_in}
+use Rattle.session_hub.specs.SimpleBinds.{Credentials, message_for, simple_in}
 use Rattle.session_hub.specs.FirstAnswers.{IsAnonymousBind}
 
 -- the name of a simple bind

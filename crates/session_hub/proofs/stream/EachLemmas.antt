@@ -1,9 +1,18 @@
 -- What holds of each message that is answered.
-use Rattle.std.proofs.Common.{◌≡◌, ℕ, zero, suc, Bool, true, false, cond, List, [], ◌∷◌, take, Option, Some, None, refl, sym, subst}
+use Rattle.std.proofs.Common.{◌≡◌, ℕ, zero, suc, Bool, true, false, cond, List, [], ◌∷◌, take, Option, Some, None, refl}
 use Rattle.std.specs.List.{AllByRecursion}
-use Rattle.session_model.specs.Rules.{Rules, Answered, up_to}
+use Rattle.session_model.specs.Rules.{Rules, up_to}
 use Rattle.session_model.specs.AnsweredMessages.{AnsweredMessage, answered_messages}
 use Rattle.session_model.proofs.Theorems.{one_later}
+
+-- a cut one message later
+pub up_to_later : (cut : Option ℕ) (message : List ℕ) (messages : List (List ℕ)) → up_to (one_later cut) (message ∷ messages) ≡ message ∷ up_to cut messages
+up_to_later None message messages = refl
+up_to_later (Some count) message messages = refl
+
+pub up_to_none : (messages : List (List ℕ)) → up_to (Some 0) messages ≡ []
+up_to_none [] = refl
+up_to_none (message ∷ messages) = refl
 
 module _ {T W : Type 0} (rules : Rules T W) (P : AnsweredMessage T W → Type 0) where
   -- where it holds of the first message, and of the others where the first doesn't close
@@ -31,12 +40,3 @@ module _ {T W : Type 0} (rules : Rules T W) (P : AnsweredMessage T W → Type 0)
   all_cut (suc count) tree who [] all = tt
   all_cut (suc count) tree who (message ∷ messages) all =
       (all.0, within (rules.answer tree who message).closes _ _ (all_cut count (rules.answer tree who message).tree (rules.answer tree who message).who messages) all.1)
-
-  -- a cut one message later
-  pub up_to_later : (cut : Option ℕ) (message : List ℕ) (messages : List (List ℕ)) → up_to (one_later cut) (message ∷ messages) ≡ message ∷ up_to cut messages
-  up_to_later None message messages = refl
-  up_to_later (Some count) message messages = refl
-
-  pub up_to_none : (messages : List (List ℕ)) → up_to (Some 0) messages ≡ []
-  up_to_none [] = refl
-  up_to_none (message ∷ messages) = refl

@@ -1,9 +1,7 @@
-use Rattle.std.proofs.Common.{◌≡◌, ℕ, List, [], Option, Some, refl, sym, ap, ◌∙◌, true≢false}
+use Rattle.std.proofs.Common.{Some, refl}
 use Rattle.dir_tree.specs.tree.Numbered.{entries_of}
 use Rattle.session_hub.specs.SimpleBinds.{message_for}
-use Rattle.session_hub.proofs.messages.AnswerLemmas.{answered_as, alone_as}
-use Rattle.session_model.specs.ldap_msg.declared.kinds.Message.{Message}
-use Rattle.session_hub.specs.SimpleBinds.{Credentials, simple_in, simple_message}
+use Rattle.session_hub.proofs.messages.AnswerLemmas.{answered_as, alone_as, short_as}
 use Rattle.session_hub.proofs.messages.BindingLemmas.{anonymous_name, anonymous_found}
 use Rattle.session_hub.proofs.messages.answer.Goals as goal
 
@@ -13,6 +11,10 @@ returns-in-Some-clause-ok g c =
     answered_as c.args.allowed.terms c.answer_simple_bind.result _ _ (entries_of (g.D.Dir.rows c.args.dir.now)) (entries_of (g.D.Dir.rows c.args.dir.now)) _ _ _ _ _ (rw c.in-Some.is at c.simple_bind.ensures.message) refl
     (alone_as c.args.allowed.terms.keeps c.args.out.now.changes.items c.answer_simple_bind.result (Some (message_for c.in-Some.request)) (entries_of (g.D.Dir.rows c.args.dir.now)) (entries_of (g.D.Dir.rows c.args.dir.now))
     c.args.who.now c.answer_simple_bind.new.who c.args.out.now.replies.items c.answer_simple_bind.new.out.items c.answer_simple_bind.ensures.ok)
+
+pub returns-in-Some-clause-short : goal.returns-in-Some-clause-short
+returns-in-Some-clause-short g c =
+    short_as c.args.allowed.terms c.answer_simple_bind.result _ _ (entries_of (g.D.Dir.rows c.args.dir.now)) _ _ (rw c.in-Some.is at c.simple_bind.ensures.message) refl c.answer_simple_bind.ensures.short
 
 -- an anonymous bind is read as a simple one, of no name
 pub returns-in-Some-clause-succeeds : goal.returns-in-Some-clause-succeeds

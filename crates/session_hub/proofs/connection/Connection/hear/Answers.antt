@@ -14,6 +14,13 @@ use Rattle.session_hub.proofs.connection.HearLemmas.{hears_as, ended_bounded}
 use Rattle.session_hub.proofs.connection.Connection.hear.Goals as goal
 
 -- nothing was unread
+pub returns-then-is_empty-clause-exact : goal.returns-then-is_empty-clause-exact
+returns-then-is_empty-clause-exact g c =
+    let none : c.self.inside.rest.items ≡ [] = grind (arith, common_steps) in
+    let stream : c.args.piece.now ≡ c.self.inside.rest.items ++ c.args.piece.now = sym (ap (λ xs. xs ++ c.args.piece.now) none) in
+    hears_as c.args.allowed.terms c.room_behind.result c.args.piece.now c.args.piece.now _ _ _ c.args.self.now _ _ c.keep_unread-end.new.rest.items c.self.inside.taken _ c.speak_and_fit-spoken.result c.keep_unread-end.result _ _
+    c.self.view_is stream c.speak_and_fit-spoken.ensures.said c.keep_unread-end.ensures.items refl c.self.invariant.queue.within c.closes-self-inside.ensures c.cut_behind-self-inside.ensures
+
 pub returns-then-is_empty-clause-bounded : goal.returns-then-is_empty-clause-bounded
 returns-then-is_empty-clause-bounded g c = ended_bounded c.args.allowed.terms c.room_behind.result _ _ _ _ _ _ _ c.speak_and_fit-spoken.result _ c.keep_unread-end.result c.speak_and_fit-spoken.ensures.said c.keep_unread-end.ensures.items
 
