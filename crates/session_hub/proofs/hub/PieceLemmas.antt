@@ -11,6 +11,7 @@ use Rattle.session_hub.specs.declared.bounds.Bounds.{Bounds}
 use Rattle.session_hub.specs.Answering.{rules}
 use Rattle.session_hub.specs.Event.{new_cut}
 use Rattle.session_hub.specs.FirstAnswers.{HasKeptAnswer, IsIdle, IsBehindFirst, AnswersFirst, HearsFirst}
+use Rattle.session_hub.specs.ShortAnswers.{StepsShort}
 use Rattle.session_hub.specs.Rooms.{StaysWithin, AnswersWithin, HearsWithin, queued_beside, room_of}
 use Rattle.session_hub.specs.connection.Connections.{HearsPiece}
 use Rattle.session_hub.specs.hub.Hubs.{HubState, held, Hears, HearsAt, IsShut, IsOpenAt}
@@ -34,6 +35,8 @@ hears_piece terms number piece (event.Bytes from octets) t u old new was_cut is 
       same = ap (λ b. record { tree = u; kept = new.kept; was_cut = b; unstored = new.unstored }) told ∙ at.same old.was_cut
           ∙ ap (λ n. heard (rules terms) (Bytes n piece (new_cut (kept_of n old.kept) (cut_of n new.kept))) (held t old)) (sym is.0)
           ∙ ap (λ xs. heard (rules terms) (Bytes from xs (new_cut (kept_of from old.kept) (cut_of from new.kept))) (held t old)) (sym is.1);
+      short = subst (λ xs. StepsShort terms (Bytes from xs (new_cut (kept_of from old.kept) (cut_of from new.kept))) (held t old)) (sym is.1)
+          (subst (λ n. StepsShort terms (Bytes n piece (new_cut (kept_of n old.kept) (cut_of n new.kept))) (held t old)) (sym is.0) (at.short old.was_cut));
     }
 hears_piece terms number piece (event.Ended ended) t u old new was_cut is at told = absurd is
 
