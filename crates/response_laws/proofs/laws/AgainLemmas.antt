@@ -15,12 +15,12 @@ use Rattle.session_hub.specs.session_model.AnsweredMessages.{AnsweredMessage}
 use Rattle.session_hub.specs.Parties.{DirectoryEntries, Requester}
 use Rattle.session_hub.specs.declared.bounds.Terms.{Terms}
 use Rattle.session_hub.specs.Limiting.{limited_message, limited_read}
-use Rattle.session_hub.specs.Answering.{answer_read, rules}
+use Rattle.session_hub.specs.Answering.{answered, answer_read, rules}
 use Rattle.session_hub.specs.ShortAnswers.{IsShortAnswer, IsAnsweredShort}
-use Rattle.response_laws.specs.Responses.{Plain, PageEnd, octets_of, reply_in, notice, AreReadAgain, IsReadAnswer}
+use Rattle.response_laws.specs.Responses.{Plain, PageEnd, octets_of, reply_in, notice, AreResponses, AreReadAgain, IsReadAnswer}
 use Rattle.response_laws.proofs.laws.SearchLemmas.{sent_by}
 use Rattle.response_laws.proofs.laws.ReadLemmas.{ReadsReplies, ReadsEnds}
-use Rattle.response_laws.proofs.laws.ResponseLemmas.{message-answered, as_asked}
+use Rattle.response_laws.proofs.laws.ResponseLemmas.{sent_by-octets, answered-responds, limited-kind}
 
 -- the messageID of a message that was read is in its range
 id-most : (parts : Value message_layout) (content : List ℕ) → SaysLayout message_layout parts content → id_part parts ≤ 2147483647
@@ -47,7 +47,11 @@ module _ (replies_read : ReadsReplies) (ends_read : ReadsEnds) where
   message-again : (keeps : Bool) (entries : DirectoryEntries) (who : Requester) (message : Message) → message.id ≤ 2147483647 → IsShortAnswer entries who (Some message)
       → IsReadAnswer message.request message.id (answer_read keeps entries who (Some message)).replies
   message-again keeps entries who message most short = record {
-    answers = message-answered keeps entries who message;
+    answers = record {
+      sent = sent_by (answered entries who message.controls message.request).replies (answered entries who message.controls message.request).cookie;
+      responses = answered-responds entries who message.controls message.request;
+      written = sent_by-octets message.id _ _;
+    };
     again = sent-again message.id most _ _ short.replies short.ending;
   }
 
@@ -63,7 +67,14 @@ module _ (replies_read : ReadsReplies) (ends_read : ReadsEnds) where
           → IsReadAnswer message.request message.id (answer_read terms.keeps asked.tree asked.who (Some (limited_message terms.limit message))).replies
       again short =
           let whole = message-again terms.keeps asked.tree asked.who (limited_message terms.limit message) (read-most asked.message message read) short in
-          record { answers = as_asked terms.limit message _ whole.answers; again = whole.again }
+          record {
+            answers = record {
+              sent = whole.answers.sent;
+              responses = subst (λ kind. AreResponses kind whole.answers.sent) (limited-kind terms.limit message.request) whole.answers.responses;
+              written = whole.answers.written;
+            };
+            again = whole.again;
+          }
 
   -- the notice of disconnection
   pub notice-again : reply_of notice_octets ≡ Some (0, notice)

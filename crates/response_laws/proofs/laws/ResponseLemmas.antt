@@ -35,7 +35,7 @@ plain-octets : (id : ℕ) (replies : List Reply) → replies_octets id replies �
 plain-octets id [] = refl
 plain-octets id (first ∷ rest) = ap (λ octets. reply_octets id first ++ octets) (plain-octets id rest)
 
-sent_by-octets : (id : ℕ) (replies : List Reply) (cookie : Option (List ℕ)) → sent_octets id replies cookie ≡ flat_map (octets_of id) (sent_by replies cookie)
+pub sent_by-octets : (id : ℕ) (replies : List Reply) (cookie : Option (List ℕ)) → sent_octets id replies cookie ≡ flat_map (octets_of id) (sent_by replies cookie)
 sent_by-octets id replies None = plain-octets id replies
 sent_by-octets id replies (Some cookie) =
     ap₂ (λ one other. one ++ other) (plain-octets id replies) (sym (append-nil (page_end id cookie)))
@@ -88,7 +88,7 @@ operated-responds entries who controls (request.Compare compare) = alone (respon
 operated-responds entries who controls (request.Abandon id) = refl
 operated-responds entries who controls (request.Extended name value) = extended-alone who name value
 
-answered-responds : (entries : DirectoryEntries) (who : Requester) (controls : List Control) (asked : Request) → Responds asked (answered entries who controls asked)
+pub answered-responds : (entries : DirectoryEntries) (who : Requester) (controls : List Control) (asked : Request) → Responds asked (answered entries who controls asked)
 answered-responds entries who controls asked =
     by_test (Responds asked) (is_refused asked controls) (refused entries (asking who asked) asked) (operated entries (asking who asked) controls asked)
     (response-alone asked (result_of code.UnavailableCriticalExtension)) (operated-responds entries (asking who asked) controls asked)
@@ -106,7 +106,7 @@ message-answered keeps entries who message =
     }
 
 -- a limit changes nothing of the kind
-limited-kind : (limit : ℕ) (asked : Request) → response_kind (limited_request limit asked) ≡ response_kind asked
+pub limited-kind : (limit : ℕ) (asked : Request) → response_kind (limited_request limit asked) ≡ response_kind asked
 limited-kind limit (request.Bind bind) = refl
 limited-kind limit request.Unbind = refl
 limited-kind limit (request.Search search) = refl
@@ -115,7 +115,7 @@ limited-kind limit (request.Compare compare) = refl
 limited-kind limit (request.Abandon id) = refl
 limited-kind limit (request.Extended name value) = refl
 
-pub as_asked : (limit : ℕ) (message : Message) (octets : List ℕ) → IsAnswered (limited_request limit message.request) message.id octets → IsAnswered message.request message.id octets
+as_asked : (limit : ℕ) (message : Message) (octets : List ℕ) → IsAnswered (limited_request limit message.request) message.id octets → IsAnswered message.request message.id octets
 as_asked limit message octets is = record {
   sent = is.sent;
   responses = subst (λ kind. AreResponses kind is.sent) (limited-kind limit message.request) is.responses;
