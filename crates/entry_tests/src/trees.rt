@@ -11,9 +11,12 @@ fn description() -> Result<AttrId, Fail> {
 
 // The entry of the name with the description.
 fn entry(alloc: Global, name: &str, text: &str) -> Result<Entry, Fail> {
+    let Some(kind) = attr("description") else {
+        return Err(Fail::from("no such type"));
+    };
     let mut entry = Entry::new(alloc, parse(alloc, name.as_bytes())?)?;
-    let value = make_value(alloc, description()?, text.as_bytes().to_vec(alloc)?)?;
-    let _added = entry.push(description()?, value)?;
+    let value = make_value(alloc, kind, text.as_bytes().to_vec(alloc)?)?;
+    let _added = entry.push(kind, value)?;
     Ok(entry)
 }
 
