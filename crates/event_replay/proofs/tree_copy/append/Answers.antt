@@ -6,6 +6,6 @@ use Rattle.event_replay.proofs.tree_copy.append.Goals as goal
 
 pub returns-in-Ok : goal.returns-in-Ok
 returns-in-Ok c = record {
-  ok = ap entries_of c.in-Ok.ensures.ok
+  ok = ap entries_of c.in-Ok.ensures.exact.0.left
       ∙ put_entry-copied _ c.in_ok-copy.field-0 c.args.entry.now c.args.copy.now c.in_ok-copy.ensures.ok c.requires.last;
 }
