@@ -18,8 +18,8 @@ use crate::printing::put_lines;
 use acdf_filters::aci_item::Permission;
 use acdf_filters::{Item, Question, Requester};
 use dir_tree::dn_names::Dn;
-use dir_tree::{Entry, EntryNo, NoMemory};
-use directory::{Dir, find_entry};
+use dir_tree::{EntryNo, NoMemory};
+use directory::{Asking, Dir, Target};
 use explanation::AskedDecision;
 use std::alloc::Global;
 
@@ -44,31 +44,20 @@ fn question_text(
     Ok(text)
 }
 
-// The same on the item of the entry, which has the number.
+// The same on the item of the entry that is asked about.
 fn entry_text<D: Dir>(
     alloc: Global,
-    dir: &D,
-    who: &Requester,
-    number: EntryNo,
-    entry: &Entry,
+    target: &Target<'_, '_, D>,
     item: Item<'_>,
     permission: Permission,
 ) -> Result<Vec<u8>, NoMemory>
-    requires entry { entry_of number.0 (D.rows dir.now) ≡ Some entry.now }
-    ensures ok { IfOk result (λ text. text.items ≡ certificate_text (entries_of (D.rows dir.now))
-        (asked_on who.now entry.now (protected_of item.entry) permission) entry.now) }
+    ensures ok { IfOk result (λ text. text.items ≡ certificate_text (entries_of (D.rows target.now.asking.now.dir.now))
+        (asked_on target.now.asking.now.who.now target.now.entry.now (protected_of item.entry) permission)
+        target.now.entry.now) }
 {
-    let known = dir.memberships(alloc, who)?;
-    let question = Question {
-        who,
-        entry,
-        item,
-        permission,
-        after: None,
-        tree: dir.tree(),
-        known: &known,
-    };
-    question_text(alloc, &question, number, dir.in_force(number))
+    let question = target.question(item, permission);
+    let numbers = target.asking.dir.in_force(target.number);
+    question_text(alloc, &question, target.number, numbers)
 }
 
 /// Appends the certificate of the access control decision on the item of the entry of the number (X.501 18.8): what is
@@ -98,12 +87,12 @@ pub fn prove<D: Dir>(
     ensures absent { entry_of number.0 (D.rows dir.now) ≡ None → out.new.items ≡ out.old.items }
     ensures err { OnErr result (out.new.items ≡ out.old.items) }
 {
-    let tree = dir.tree();
-    tree.entries_form_a_tree();
-    let Some(entry) = tree.at(number) else {
+    dir.tree().entries_form_a_tree();
+    let asking = Asking::new(alloc, dir, who)?;
+    let Some(target) = asking.at(number) else {
         return Ok(());
     };
-    let text = entry_text(alloc, dir, who, number, entry, item, permission)?;
+    let text = entry_text(alloc, &target, item, permission)?;
     out.extend_from_slice(&text)
 }
 
@@ -119,8 +108,9 @@ fn target_text<D: Dir>(
     ensures ok { IfOk result (λ text. text.items ≡ proved_text (entries_of (D.rows dir.now)) who.now
         target.now (protected_of item.entry) permission) }
 {
-    match find_entry(dir.tree(), target) {
-        Some(found) => entry_text(alloc, dir, who, found.number, found.entry, item, permission),
+    let asking = Asking::new(alloc, dir, who)?;
+    match asking.find(target) {
+        Some(found) => entry_text(alloc, &found, item, permission),
         None => Vec::from_slice(alloc, b"absent\n"),
     }
 }

@@ -4,21 +4,11 @@ use Rattle.std.specs.List.{AllByRecursion}
 use Rattle.dir_tree.specs.Entry.{EntryInformation}
 use Rattle.acdf_filters.specs.declared.asking.Requester.{Requester}
 use Rattle.op_add_delete.specs.read_model.Views.{result_of}
-use Rattle.op_add_delete.specs.adding.Updates.{Changed, Refused, Made, left_by, deleted, added}
-use Rattle.change_laws.specs.op_modify.Modifying.{modified}
-use Rattle.change_laws.specs.op_modify.Renames.{renamed}
+use Rattle.op_add_delete.specs.adding.Updates.{Changed, Refused, Made, left_by}
+use Rattle.change_laws.specs.Updating.{updated}
 use Rattle.change_laws.specs.op_modify.ldap_msg.declared.operations.ResultCode.TheVariants as code
 use Rattle.change_laws.specs.op_modify.ldap_msg.declared.kinds.Request.{Request}
 use Rattle.change_laws.specs.op_modify.ldap_msg.declared.kinds.Request.TheVariants as request
-use Rattle.change_laws.specs.op_modify.ldap_msg.declared.kinds.Update.{Update}
-use Rattle.change_laws.specs.op_modify.ldap_msg.declared.kinds.Update.TheVariants as update
-
--- what a change comes to for a requester
-abbrev pub updated : List EntryInformation → Requester → Update → Changed
-updated entries who (update.Modify modify) = modified entries who modify
-updated entries who (update.Add add) = added entries who add
-updated entries who (update.Delete delete) = deleted entries who delete
-updated entries who (update.Rename rename) = renamed entries who rename
 
 -- what a request comes to for a requester; one that changes nothing is none that may be accepted
 abbrev pub outcome : List EntryInformation → Requester → Request → Changed

@@ -4,8 +4,9 @@ ghost use Rattle.std.specs.Prelude.{◌≡◌, Some, IfOk, IfSome};
 ghost use Rattle.std.specs.Option.{option_map};
 ghost use Rattle.dir_tree.specs.tree.Trees.{named_in};
 ghost use Rattle.dir_tree.specs.tree.Numbered.{entry_of, entries_of, find_name};
-ghost use Rattle.acdf_filters.specs.Asking.{protected_of};
+ghost use Rattle.acdf_filters.specs.Asking.{protected_of, asked_on};
 ghost use Rattle.acdf_filters.specs.Granted.{granted, granted_after};
+ghost use Rattle.acdf_filters.specs.weighing.Weighing.{KnowsGroups, asked_of};
 ghost use Rattle.read_model.specs.Views.{row_of};
 ghost use Rattle.read_model.specs.Selecting.{permits_of};
 ghost use Rattle.directory.specs.Asking.{Knows, knows-prop};
@@ -14,7 +15,7 @@ ghost use Rattle.directory.specs.Targets.{is_suffix};
 use crate::dir::{Addition, Dir};
 use crate::entries::{NumberedEntry, find_entry, is_suffix};
 use acdf_filters::aci_item::Permission;
-use acdf_filters::{Item, Membership, Requester};
+use acdf_filters::{Item, Membership, Question, Requester};
 use dir_tree::dn_names::{Dn, Value};
 use dir_tree::schema_tables::AttrId;
 use dir_tree::{Entry, EntryNo, NoMemory};
@@ -101,6 +102,25 @@ impl<'a, 'b, D: Dir> Target<'a, 'b, D> {
         ensures exact { result ≡ is_suffix self.now.entry.now.name (entries_of (D.rows self.now.asking.now.dir.now)) }
     {
         is_suffix(self.asking.dir.tree(), self.numbered())
+    }
+
+    /// What the access control decision function is asked of the item of the entry (X.501 18.8.1).
+    pub fn question<'c>(&'c self, item: Item<'c>, permission: Permission) -> Question<'c>
+        ensures asked { asked_of result ≡ asked_on self.now.asking.now.who.now self.now.entry.now
+            (protected_of item.entry) permission }
+        ensures groups { KnowsGroups result }
+        ensures tree { result.tree.now ≡ D.rows self.now.asking.now.dir.now }
+        ensures entry { result.entry.now ≡ self.now.entry.now }
+    {
+        Question {
+            who: self.asking.who,
+            entry: self.entry,
+            item,
+            permission,
+            after: None,
+            tree: self.asking.dir.tree(),
+            known: &self.asking.known,
+        }
     }
 
     /// Whether the requester has the permission for the item of the entry (X.501 18.8).

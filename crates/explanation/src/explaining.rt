@@ -15,8 +15,8 @@ use crate::filters::keep_deciding;
 use crate::steps::{Counts, KeptTuple, Steps};
 use acdf_filters::aci_item::Permission;
 use acdf_filters::{Item, Question, Requester};
-use dir_tree::{Entry, EntryNo, NoMemory};
-use directory::Dir;
+use dir_tree::{EntryNo, NoMemory};
+use directory::{Asking, Dir, Target};
 use std::alloc::Global;
 
 // What is said of those that are left.
@@ -75,31 +75,19 @@ fn explain_question(
     })
 }
 
-// The decision on the entry, which has the number.
-fn explain_entry<D: Dir>(
+// The decision on the item of the entry.
+fn explain_target<D: Dir>(
     alloc: Global,
-    dir: &D,
-    who: &Requester,
-    number: EntryNo,
-    entry: &Entry,
+    target: &Target<'_, '_, D>,
     item: Item<'_>,
     permission: Permission,
 ) -> Result<Steps, NoMemory>
-    requires entry { entry_of number.0 (D.rows dir.now) ≡ Some entry.now }
-    ensures ok { IfOk result (IsExplained (D.rows dir.now) entry.now
-        (asked_on who.now entry.now (protected_of item.entry) permission)) }
+    ensures ok { IfOk result (IsExplained (D.rows target.now.asking.now.dir.now) target.now.entry.now
+        (asked_on target.now.asking.now.who.now target.now.entry.now (protected_of item.entry) permission)) }
 {
-    let known = dir.memberships(alloc, who)?;
-    let question = Question {
-        who,
-        entry,
-        item,
-        permission,
-        after: None,
-        tree: dir.tree(),
-        known: &known,
-    };
-    explain_question(alloc, &question, number, dir.in_force(number))
+    let question = target.question(item, permission);
+    let numbers = target.asking.dir.in_force(target.number);
+    explain_question(alloc, &question, target.number, numbers)
 }
 
 // Where there is no entry, nothing counts.
@@ -138,8 +126,9 @@ pub fn explain<D: Dir>(
         (asked_on who.now entry (protected_of item.entry) permission)) }
     ensures absent { entry_of number.0 (D.rows dir.now) ≡ None → IfOk result (λ steps. IsNothing steps) }
 {
-    match dir.tree().at(number) {
-        Some(entry) => explain_entry(alloc, dir, who, number, entry, item, permission),
+    let asking = Asking::new(alloc, dir, who)?;
+    match asking.at(number) {
+        Some(target) => explain_target(alloc, &target, item, permission),
         None => Ok(no_steps(alloc)),
     }
 }

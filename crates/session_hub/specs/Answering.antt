@@ -25,9 +25,8 @@ use Rattle.op_read.specs.page_core.Endings.{page_end}
 use Rattle.op_read.specs.page_core.Pages.{Paged, unpaged, ended, page_replies}
 use Rattle.op_read.specs.read_model.CompareReplies.{compare_result}
 use Rattle.op_bind.specs.Binds.{bind_answer}
-use Rattle.change_laws.specs.op_add_delete.adding.Updates.{Changed, Refused, Made, left_by, added, deleted}
-use Rattle.change_laws.specs.op_modify.Modifying.{modified}
-use Rattle.change_laws.specs.op_modify.Renames.{renamed}
+use Rattle.change_laws.specs.op_add_delete.adding.Updates.{Changed, Refused, Made, left_by}
+use Rattle.change_laws.specs.Updating.{updated}
 use Rattle.change_records.specs.Written.{record_text}
 use Rattle.session_model.specs.Rules.{Rules, Answered}
 use Rattle.session_hub.specs.Parties.{DirectoryEntries, Requester, nobody}
@@ -126,13 +125,6 @@ changing entries who asked changed = record {
   who = who;
 }
 
--- the change that a request asks for
-abbrev pub change_of : DirectoryEntries → Requester → Update → Changed
-change_of entries who (update.Modify modify) = modified entries who modify
-change_of entries who (update.Add add) = added entries who add
-change_of entries who (update.Delete delete) = deleted entries who delete
-change_of entries who (update.Rename rename) = renamed entries who rename
-
 -- an operation that no control refuses: a search and a compare read what the requester sees of the entries, a change changes
 -- them, and an extended operation may ask who the requester is
 abbrev pub operated : DirectoryEntries → Requester → List Control → Request → Operated
@@ -140,7 +132,7 @@ operated entries who controls (request.Bind bind) = bound entries bind
 operated entries who controls request.Unbind = replying entries who []
 operated entries who controls (request.Search search) =
     paging entries who (searched (view_of entries who) search (subentries_asked controls) (page_asked controls))
-operated entries who controls (request.Update update) = changing entries who update (change_of entries who update)
+operated entries who controls (request.Update update) = changing entries who update (updated entries who update)
 operated entries who controls (request.Compare compare) =
     replying entries who (reply.Ended ending.Compare (compare_result (view_of entries who) compare) ∷ [])
 operated entries who controls (request.Abandon id) = replying entries who []

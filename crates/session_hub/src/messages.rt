@@ -11,11 +11,12 @@ ghost use Rattle.session_model.specs.ldap_msg.declared.kinds.Reply.TheVariants a
 ghost use Rattle.session_model.specs.ldap_msg.declared.kinds.Request.TheVariants as request;
 ghost use Rattle.session_model.specs.ldap_msg.declared.operations.Ending.TheVariants as ending;
 ghost use Rattle.change_laws.specs.op_add_delete.adding.Updates.{IsChanged};
+ghost use Rattle.change_laws.specs.Updating.{updated};
 ghost use Rattle.change_records.specs.Written.{record_text};
 ghost use Rattle.session_hub.specs.Parties.{DirectoryEntries, Requester};
 ghost use Rattle.op_read.specs.page_core.Pages.{ended as unread};
 ghost use Rattle.session_hub.specs.Controls.{subentries_asked, page_asked};
-ghost use Rattle.session_hub.specs.Answering.{rules, ending_for, response_to as response_of, replies_in, ended_with, asking, searched, answer_octets, change_of, changing, kept_changes, operated, answered, is_unbind, answer_read};
+ghost use Rattle.session_hub.specs.Answering.{rules, ending_for, response_to as response_of, replies_in, ended_with, asking, searched, answer_octets, changing, kept_changes, operated, answered, is_unbind, answer_read};
 ghost use Rattle.session_hub.specs.Outgoing.{put_in};
 ghost use Rattle.session_hub.specs.Answers.{Gives, Sends};
 ghost use Rattle.session_hub.specs.ShortAnswers.{IsShortAnswer, IsAnsweredShort};
@@ -206,7 +207,7 @@ fn change<D: Dir>(
     update: &Update,
 ) -> Result<Option<LdapResult>, AllocError>
     ensures ok { IfOk result (λ refusal. IsChanged (entries_of (D.rows dir.old))
-        (change_of (entries_of (D.rows dir.old)) who.now update.now)
+        (updated (entries_of (D.rows dir.old)) who.now update.now)
         refusal (entries_of (D.rows dir.new))) }
     ensures kept { OnErr result (entries_of (D.rows dir.new) ≡ entries_of (D.rows dir.old)) }
 {
@@ -304,11 +305,11 @@ fn put_change<D: Dir>(
     requires asks { wanted.message.now.request ≡ request.Update wanted.update.now }
     ensures ok { OnOk result (Sends wanted.entry.message.now.id
         (changing (entries_of (D.rows dir.old)) who.now wanted.entry.update.now
-        (change_of (entries_of (D.rows dir.old)) who.now wanted.entry.update.now))
+        (updated (entries_of (D.rows dir.old)) who.now wanted.entry.update.now))
         out.old.replies.items out.new.replies.items (entries_of (D.rows dir.new)) who.now) }
     ensures recorded { OnOk result (out.new.changes.items ≡ out.old.changes.items ++ kept_changes keeps
         (changing (entries_of (D.rows dir.old)) who.now wanted.entry.update.now
-        (change_of (entries_of (D.rows dir.old)) who.now wanted.entry.update.now)).changes) }
+        (updated (entries_of (D.rows dir.old)) who.now wanted.entry.update.now)).changes) }
     ensures err { OnErr result (out.new.replies.items ≡ out.old.replies.items) }
     ensures unrecorded { OnErr result (out.new.changes.items ≡ out.old.changes.items) }
     ensures entries { OnErr result (entries_of (D.rows dir.new) ≡ entries_of (D.rows dir.old)) }

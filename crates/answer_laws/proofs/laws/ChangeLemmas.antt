@@ -18,6 +18,7 @@ use Rattle.ldap_msg.specs.declared.kinds.Update.{Update}
 use Rattle.ldap_msg.specs.declared.kinds.Reply.TheVariants as reply
 use Rattle.ldap_msg.specs.declared.operations.Ending.TheVariants as ending
 use Rattle.change_laws.specs.op_add_delete.adding.Updates.{Made, added, deleted}
+use Rattle.change_laws.specs.Updating.{updated}
 use Rattle.change_laws.specs.op_modify.Modifying.{modified}
 use Rattle.change_laws.specs.op_modify.Renames.{renamed}
 use Rattle.change_laws.specs.Granting.{MayDelete, MayAdd}
@@ -25,7 +26,7 @@ use Rattle.change_laws.specs.ChangeGranting.{MayModify, MayRename}
 use Rattle.read_model.specs.Views.{result_of}
 use Rattle.read_model.specs.SearchReplies.{replies_octets}
 use Rattle.session_hub.specs.Controls.{is_refused}
-use Rattle.session_hub.specs.Answering.{Operated, ending_for, asking, change_of, recorded, changing, operated, answered, is_unbind, sent_octets, kept_changes, answer_read}
+use Rattle.session_hub.specs.Answering.{Operated, ending_for, asking, recorded, changing, operated, answered, is_unbind, sent_octets, kept_changes, answer_read}
 use Rattle.answer_laws.specs.Asked.{AsksFor}
 use Rattle.answer_laws.specs.Made.{IsMade}
 
@@ -37,7 +38,7 @@ accepted-operated entries who controls given asked e accepted = rw (accepted, e)
 -- the answer to a message whose change nothing refuses
 answer-made : (keeps : Bool) (entries : List EntryInformation) (who : Requester) (message : Message) (asked : Update) (response : Ending)
     (left : List EntryInformation) → AsksFor message (request.Update asked) → ending_for asked ≡ response
-    → change_of entries who asked ≡ Made left → IsMade keeps who message response left (answer_read keeps entries who (Some message))
+    → updated entries who asked ≡ Made left → IsMade keeps who message response left (answer_read keeps entries who (Some message))
 answer-made keeps entries who message asked response left asks responds is =
     let same : answered entries who message.controls message.request ≡ changing entries who asked (Made left) =
     accepted-operated entries who message.controls message.request (request.Update asked) asks.asks asks.accepted ∙ ap (changing entries who asked) is in

@@ -19,7 +19,7 @@ use Rattle.session_hub.specs.Parties.{DirectoryEntries, Requester}
 use Rattle.session_hub.specs.declared.bounds.Terms.{Terms}
 use Rattle.session_hub.specs.Controls.{is_refused}
 use Rattle.session_hub.specs.Limiting.{limited_request, limited_read}
-use Rattle.session_hub.specs.Answering.{Operated, recorded, change_of, asking, operated, refused, answered, answer_read, rules}
+use Rattle.session_hub.specs.Answering.{Operated, recorded, asking, operated, refused, answered, answer_read, rules}
 use Rattle.crash_laws.proofs.laws.AskedLemmas.{message-octets}
 
 -- accepted changes, of which these are the records, leave these entries
@@ -63,20 +63,13 @@ limited_octets limit (request.Compare compare) octets = octets
 limited_octets limit (request.Abandon id) octets = octets
 limited_octets limit (request.Extended name value) octets = octets
 
--- what is replayed of a change is what sessions make of it
-same_change : (entries : DirectoryEntries) (who : Requester) (asked : Update) → outcome entries who (request.Update asked) ≡ change_of entries who asked
-same_change entries who (update.Modify modify) = refl
-same_change entries who (update.Add add) = refl
-same_change entries who (update.Delete delete) = refl
-same_change entries who (update.Rename rename) = refl
-
 operated_made : (entries : DirectoryEntries) (who : Requester) (controls : List Control) (asked : Request) → IsOfOctets asked
     → let came = operated entries who controls asked in IsMade entries came.changes came.entries
 operated_made entries who controls (request.Bind bind) octets = nothing_made entries
 operated_made entries who controls request.Unbind octets = nothing_made entries
 operated_made entries who controls (request.Search search) octets = nothing_made entries
 operated_made entries who controls (request.Update update) octets =
-    changed_made entries who (request.Update update) (change_of entries who update) (same_change entries who update) octets
+    changed_made entries who (request.Update update) (outcome entries who (request.Update update)) refl octets
 operated_made entries who controls (request.Compare compare) octets = nothing_made entries
 operated_made entries who controls (request.Abandon id) octets = nothing_made entries
 operated_made entries who controls (request.Extended name value) octets = nothing_made entries
