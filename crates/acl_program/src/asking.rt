@@ -13,57 +13,58 @@ ghost use Rattle.command_files.specs.Outside.{written};
 ghost use Rattle.acl_program.specs.Answering.{asked_text};
 ghost use Rattle.acl_program.specs.Lines.{sent_over};
 ghost use Rattle.acl_program.specs.Outcomes.{Answered};
-ghost use Rattle.acl_program.specs.program.Outside.{Linked, outside};
+ghost use Rattle.acl_program.specs.program.Outside.{at_count};
 ghost use Rattle.acl_program.specs.program.Playing.{Ends, Performs};
 
 use crate::connection::{CONNECTION, link_of, serve_link};
+use crate::outside::Outside;
 use crate::status::Status;
 use crate::troubles::print_trouble;
 use aci_index::IndexedDir;
 use command_files::client_core::{Asked, ask_events, put_ask_script, put_replies_text};
 use command_files::dir_tree::{NoMemory, Tree};
-use command_files::wire_io::{ScriptLink, Shelf, Sink, write_all};
+use command_files::wire_io::{Link, ScriptLink, Shelf, Sink, write_all};
 use command_files::{load_asks, load_data};
 use command_words::Asking;
 use std::alloc::Global;
 
 /// Loads the data file, reads the requests, serves them as those of one connection, and prints its replies; or serves
 /// nothing and prints the script, if that is asked for.
-pub(crate) fn tell_replies<H: Shelf, K: Sink>(
+pub(crate) fn tell_replies<H: Shelf, K: Sink, L: Link>(
     alloc: Global,
     asked: &Asking<'_>,
-    shelf: &mut H,
-    out: &mut K,
+    outside: &mut Outside<H, K, L>,
 ) -> Status
-    ensures performs { (link : Linked) → Performs (Ask asked.now.data.now asked.now.requests.now asked.now.script)
-        (outside (H.files shelf.old) (H.faults shelf.old) (K.put out.old) (K.faults out.old) link) result
-        (outside (H.files shelf.new) (H.faults shelf.new) (K.put out.new) (K.faults out.new) link) }
-    ensures kept { H.files shelf.new ≡ H.files shelf.old }
+    ensures performs { Performs (Ask asked.now.data.now asked.now.requests.now asked.now.script) outside.old result outside.new }
+    ensures kept { outside.new.shelf.files ≡ outside.old.shelf.files }
 {
-    match load_data(alloc, shelf, asked.data) {
-        Ok(tree) => ask_over(alloc, tree, asked, shelf, out),
-        Err(trouble) => print_trouble(alloc, trouble, out),
+    match load_data(alloc, &mut outside.shelf, asked.data) {
+        Ok(tree) => ask_over(alloc, tree, asked, outside),
+        Err(trouble) => print_trouble(alloc, trouble, &mut outside.out),
     }
 }
 
 /// The same over the tree of the data file.
-fn ask_over<H: Shelf, K: Sink>(
+fn ask_over<H: Shelf, K: Sink, L: Link>(
     alloc: Global,
     tree: Tree,
     asked: &Asking<'_>,
-    shelf: &mut H,
-    out: &mut K,
+    outside: &mut Outside<H, K, L>,
 ) -> Status
-    ensures performs { (link : Linked) (name : List ℕ) (before : ℕ) →
-        LoadsData (H.files shelf.old) name before (H.faults shelf.old) (Ok tree) →
-        Performs (Ask name asked.now.requests.now asked.now.script)
-        (outside (H.files shelf.old) before (K.put out.old) (K.faults out.old) link) result
-        (outside (H.files shelf.new) (H.faults shelf.new) (K.put out.new) (K.faults out.new) link) }
-    ensures kept { H.files shelf.new ≡ H.files shelf.old }
+    ensures performs { (name : List ℕ) (before : ℕ) →
+        LoadsData outside.old.shelf.files name before outside.old.shelf.faults (Ok tree) →
+        Performs (Ask name asked.now.requests.now asked.now.script) (at_count before outside.old) result outside.new }
+    ensures kept { outside.new.shelf.files ≡ outside.old.shelf.files }
 {
-    match load_asks(alloc, shelf, asked.requests) {
-        Ok(requests) => print_asked(alloc, tree, requests.as_slice(), asked.script, out),
-        Err(trouble) => print_trouble(alloc, trouble, out),
+    match load_asks(alloc, &mut outside.shelf, asked.requests) {
+        Ok(requests) => print_asked(
+            alloc,
+            tree,
+            requests.as_slice(),
+            asked.script,
+            &mut outside.out,
+        ),
+        Err(trouble) => print_trouble(alloc, trouble, &mut outside.out),
     }
 }
 

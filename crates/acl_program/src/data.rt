@@ -10,34 +10,31 @@ ghost use Rattle.command_files.specs.loading.Changing.{left_of};
 ghost use Rattle.command_files.specs.Outside.{written};
 ghost use Rattle.acl_program.specs.Outcomes.{Checked, Dumped, status_of, text_of};
 ghost use Rattle.acl_program.specs.serve.Serving.{applied_text};
-ghost use Rattle.acl_program.specs.program.Outside.{Linked, outside};
 ghost use Rattle.acl_program.specs.program.Playing.{Ends, Performs};
 
+use crate::outside::Outside;
 use crate::status::Status;
 use crate::troubles::print_trouble;
 use command_files::data_file::put_tree;
 use command_files::dir_tree::Tree;
-use command_files::wire_io::{Shelf, Sink, write_all};
+use command_files::wire_io::{Link, Shelf, Sink, write_all};
 use command_files::{Applied, Loaded, load_tree};
 use command_words::Loading;
 use std::alloc::{AllocError, Global};
 
 /// Loads the data file, applies the changes where there are some, and prints how many entries and access control subentries
 /// are left, and how many changes were applied.
-pub(crate) fn check<H: Shelf, K: Sink>(
+pub(crate) fn check<H: Shelf, K: Sink, L: Link>(
     alloc: Global,
     asked: &Loading<'_>,
-    shelf: &mut H,
-    out: &mut K,
+    outside: &mut Outside<H, K, L>,
 ) -> Status
-    ensures performs { (link : Linked) → Performs (Check asked.now.data.now (option_copied asked.now.changes))
-        (outside (H.files shelf.old) (H.faults shelf.old) (K.put out.old) (K.faults out.old) link) result
-        (outside (H.files shelf.new) (H.faults shelf.new) (K.put out.new) (K.faults out.new) link) }
-    ensures kept { H.files shelf.new ≡ H.files shelf.old }
+    ensures performs { Performs (Check asked.now.data.now (option_copied asked.now.changes)) outside.old result outside.new }
+    ensures kept { outside.new.shelf.files ≡ outside.old.shelf.files }
 {
-    match load_tree(alloc, shelf, asked.data, asked.changes) {
-        Ok(loaded) => print_counts(alloc, &loaded, out),
-        Err(trouble) => print_trouble(alloc, trouble, out),
+    match load_tree(alloc, &mut outside.shelf, asked.data, asked.changes) {
+        Ok(loaded) => print_counts(alloc, &loaded, &mut outside.out),
+        Err(trouble) => print_trouble(alloc, trouble, &mut outside.out),
     }
 }
 
@@ -82,20 +79,17 @@ pub(crate) fn count_subentries(tree: &Tree) -> usize
 }
 
 /// Loads the data file, applies the changes where there are some, and prints the tree that is left as a data file.
-pub(crate) fn dump<H: Shelf, K: Sink>(
+pub(crate) fn dump<H: Shelf, K: Sink, L: Link>(
     alloc: Global,
     asked: &Loading<'_>,
-    shelf: &mut H,
-    out: &mut K,
+    outside: &mut Outside<H, K, L>,
 ) -> Status
-    ensures performs { (link : Linked) → Performs (Dump asked.now.data.now (option_copied asked.now.changes))
-        (outside (H.files shelf.old) (H.faults shelf.old) (K.put out.old) (K.faults out.old) link) result
-        (outside (H.files shelf.new) (H.faults shelf.new) (K.put out.new) (K.faults out.new) link) }
-    ensures kept { H.files shelf.new ≡ H.files shelf.old }
+    ensures performs { Performs (Dump asked.now.data.now (option_copied asked.now.changes)) outside.old result outside.new }
+    ensures kept { outside.new.shelf.files ≡ outside.old.shelf.files }
 {
-    match load_tree(alloc, shelf, asked.data, asked.changes) {
-        Ok(loaded) => print_tree(alloc, &loaded, out),
-        Err(trouble) => print_trouble(alloc, trouble, out),
+    match load_tree(alloc, &mut outside.shelf, asked.data, asked.changes) {
+        Ok(loaded) => print_tree(alloc, &loaded, &mut outside.out),
+        Err(trouble) => print_trouble(alloc, trouble, &mut outside.out),
     }
 }
 

@@ -9,9 +9,9 @@ ghost use Rattle.command_files.specs.Outside.{written};
 ghost use Rattle.acl_program.specs.Answering.{account_text};
 ghost use Rattle.acl_program.specs.Deciding.{decision_asked};
 ghost use Rattle.acl_program.specs.Outcomes.{Answered};
-ghost use Rattle.acl_program.specs.program.Outside.{Linked, outside};
 ghost use Rattle.acl_program.specs.program.Playing.{Ends, Performs};
 
+use crate::outside::Outside;
 use crate::status::Status;
 use crate::troubles::{print_trouble, print_usage};
 use aci_index::IndexedDir;
@@ -19,7 +19,7 @@ use certify::explanation::{AskedDecision, explain_text, read_question};
 use certify::prove_text;
 use command_files::dir_tree::{NoMemory, Tree};
 use command_files::load_data;
-use command_files::wire_io::{Shelf, Sink, write_all};
+use command_files::wire_io::{Link, Shelf, Sink, write_all};
 use command_words::Deciding;
 use std::alloc::Global;
 
@@ -34,45 +34,39 @@ pub(crate) enum Account {
 
 /// Reads the question, loads the data file, and prints the decision. Where the words are no question it prints how to call
 /// the program, and reads no file.
-pub(crate) fn tell_decision<H: Shelf, K: Sink>(
+pub(crate) fn tell_decision<H: Shelf, K: Sink, L: Link>(
     alloc: Global,
     account: Account,
     asked: &Deciding<'_>,
-    shelf: &mut H,
-    out: &mut K,
+    outside: &mut Outside<H, K, L>,
 ) -> Status
-    ensures performs { (link : Linked) → Performs (decision_asked account asked.now.data.now asked.now.who.now
-        asked.now.target.now asked.now.item.now asked.now.permission.now)
-        (outside (H.files shelf.old) (H.faults shelf.old) (K.put out.old) (K.faults out.old) link) result
-        (outside (H.files shelf.new) (H.faults shelf.new) (K.put out.new) (K.faults out.new) link) }
-    ensures kept { H.files shelf.new ≡ H.files shelf.old }
+    ensures performs { Performs (decision_asked account asked.now.data.now asked.now.who.now
+        asked.now.target.now asked.now.item.now asked.now.permission.now) outside.old result outside.new }
+    ensures kept { outside.new.shelf.files ≡ outside.old.shelf.files }
 {
     match read_question(alloc, asked.who, asked.target, asked.item, asked.permission) {
-        Ok(Some(question)) => decide_over(alloc, account, asked.data, &question, shelf, out),
-        Ok(None) => print_usage(out),
+        Ok(Some(question)) => decide_over(alloc, account, asked.data, &question, outside),
+        Ok(None) => print_usage(&mut outside.out),
         Err(_) => Status::NoMemory,
     }
 }
 
 /// Loads the data file, and prints the decision over its tree.
-fn decide_over<H: Shelf, K: Sink>(
+fn decide_over<H: Shelf, K: Sink, L: Link>(
     alloc: Global,
     account: Account,
     name: &str,
     question: &AskedDecision,
-    shelf: &mut H,
-    out: &mut K,
+    outside: &mut Outside<H, K, L>,
 ) -> Status
-    ensures performs { (link : Linked) (who target item permission : List ℕ) →
+    ensures performs { (who target item permission : List ℕ) →
         question_of who target item permission ≡ Some (question_view question.now) →
-        Performs (decision_asked account name.now who target item permission)
-        (outside (H.files shelf.old) (H.faults shelf.old) (K.put out.old) (K.faults out.old) link) result
-        (outside (H.files shelf.new) (H.faults shelf.new) (K.put out.new) (K.faults out.new) link) }
-    ensures kept { H.files shelf.new ≡ H.files shelf.old }
+        Performs (decision_asked account name.now who target item permission) outside.old result outside.new }
+    ensures kept { outside.new.shelf.files ≡ outside.old.shelf.files }
 {
-    match load_data(alloc, shelf, name) {
-        Ok(tree) => print_decision(alloc, tree, question, account, out),
-        Err(trouble) => print_trouble(alloc, trouble, out),
+    match load_data(alloc, &mut outside.shelf, name) {
+        Ok(tree) => print_decision(alloc, tree, question, account, &mut outside.out),
+        Err(trouble) => print_trouble(alloc, trouble, &mut outside.out),
     }
 }
 

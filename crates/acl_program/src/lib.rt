@@ -7,6 +7,7 @@ mod connection;
 mod data;
 mod decisions;
 mod help;
+mod outside;
 mod printing;
 mod program;
 mod replay;
@@ -19,5 +20,6 @@ mod troubles;
 mod verifying;
 mod why;
 
+pub use outside::Outside;
 pub use program::run;
 pub use status::Status;

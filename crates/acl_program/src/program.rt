@@ -4,7 +4,6 @@ ghost use Rattle.std.specs.Prelude.{◌≡◌, map, string_bytes};
 ghost use Rattle.command_files.specs.plain_values.Counts.{Rose};
 ghost use Rattle.acl_program.specs.program.Causes.{AsksServing, IsNoCommand, IsDue};
 ghost use Rattle.acl_program.specs.Outcomes.{Outcome};
-ghost use Rattle.acl_program.specs.program.Outside.{linked, outside};
 ghost use Rattle.acl_program.specs.program.Running.{Prints, EndsAs, IsCause, EndsAtFaults};
 ghost use Rattle.acl_program.specs.program.Playing.{Runs, Performs};
 ghost use Rattle.acl_program.specs.program.Twins.{PrintsAlike};
@@ -15,6 +14,7 @@ use crate::asking::tell_replies;
 use crate::data::{check, dump};
 use crate::decisions::{Account, tell_decision};
 use crate::help::{print_help, print_version};
+use crate::outside::Outside;
 use crate::replay::replay;
 use crate::rights_table::tell_rights;
 use crate::sample::sample;
@@ -68,67 +68,39 @@ use std::alloc::Global;
 pub fn run<H: Shelf, K: Sink, L: Link>(
     alloc: Global,
     words: &[String],
-    shelf: &mut H,
-    out: &mut K,
-    link: &mut L,
+    outside: &mut Outside<H, K, L>,
 ) -> Status
     // what is put: the text of an outcome that comes, with its status; or a front of it. And what is done with the link
-    ensures text { Prints (map string_bytes words.now)
-        (outside (H.files shelf.old) (H.faults shelf.old) (K.put out.old) (K.faults out.old)
-        (linked (L.journal link.old) (L.plan link.old) (L.faults link.old) (L.store_faults link.old) (L.lost link.old) (L.refusals link.old))) result
-        (outside (H.files shelf.new) (H.faults shelf.new) (K.put out.new) (K.faults out.new)
-        (linked (L.journal link.new) (L.plan link.new) (L.faults link.new) (L.store_faults link.new) (L.lost link.new) (L.refusals link.new))) }
+    ensures text { Prints (map string_bytes words.now) outside.old result outside.new }
     // where the files are told and accepted, the command is done; serving where the link then gives Stop
-    ensures complete { (outcome : Outcome) → IsDue (map string_bytes words.now) (H.files shelf.old)
-        (linked (L.journal link.old) (L.plan link.old) (L.faults link.old) (L.store_faults link.old) (L.lost link.old) (L.refusals link.old))
-        (linked (L.journal link.new) (L.plan link.new) (L.faults link.new) (L.store_faults link.new) (L.lost link.new) (L.refusals link.new)) outcome
-        → (Rose (H.faults shelf.old) (H.faults shelf.new) → ⊥) → (Rose (K.faults out.old) (K.faults out.new) → ⊥)
+    ensures complete { (outcome : Outcome) → IsDue (map string_bytes words.now) outside.old.shelf.files outside.old.link outside.new.link outcome
+        → (Rose outside.old.shelf.faults outside.new.shelf.faults → ⊥) → (Rose outside.old.out.faults outside.new.out.faults → ⊥)
         → EndsAs outcome result }
     // over twins a replay puts the same lines
-    ensures twins { PrintsAlike (map string_bytes words.now)
-        (outside (H.files shelf.old) (H.faults shelf.old) (K.put out.old) (K.faults out.old)
-        (linked (L.journal link.old) (L.plan link.old) (L.faults link.old) (L.store_faults link.old) (L.lost link.old) (L.refusals link.old))) result
-        (outside (H.files shelf.new) (H.faults shelf.new) (K.put out.new) (K.faults out.new)
-        (linked (L.journal link.new) (L.plan link.new) (L.faults link.new) (L.store_faults link.new) (L.lost link.new) (L.refusals link.new))) }
+    ensures twins { PrintsAlike (map string_bytes words.now) outside.old result outside.new }
     // each refusal
     ensures usage { result ≡ Status.Usage → IsNoCommand (map string_bytes words.now) }
-    ensures refused { IsCause (map string_bytes words.now)
-        (outside (H.files shelf.old) (H.faults shelf.old) (K.put out.old) (K.faults out.old)
-        (linked (L.journal link.old) (L.plan link.old) (L.faults link.old) (L.store_faults link.old) (L.lost link.old) (L.refusals link.old)))
-        (outside (H.files shelf.new) (H.faults shelf.new) (K.put out.new) (K.faults out.new)
-        (linked (L.journal link.new) (L.plan link.new) (L.faults link.new) (L.store_faults link.new) (L.lost link.new) (L.refusals link.new))) result }
-    ensures faults { EndsAtFaults
-        (outside (H.files shelf.old) (H.faults shelf.old) (K.put out.old) (K.faults out.old)
-        (linked (L.journal link.old) (L.plan link.old) (L.faults link.old) (L.store_faults link.old) (L.lost link.old) (L.refusals link.old)))
-        (outside (H.files shelf.new) (H.faults shelf.new) (K.put out.new) (K.faults out.new)
-        (linked (L.journal link.new) (L.plan link.new) (L.faults link.new) (L.store_faults link.new) (L.lost link.new) (L.refusals link.new))) result }
+    ensures refused { IsCause (map string_bytes words.now) outside.old outside.new result }
+    ensures faults { EndsAtFaults outside.old outside.new result }
     // what stays
-    ensures link { (AsksServing (map string_bytes words.now) → ⊥) →
-        linked (L.journal link.new) (L.plan link.new) (L.faults link.new) (L.store_faults link.new) (L.lost link.new) (L.refusals link.new)
-        ≡ linked (L.journal link.old) (L.plan link.old) (L.faults link.old) (L.store_faults link.old) (L.lost link.old) (L.refusals link.old) }
-    ensures shelf { H.files shelf.new ≡ H.files shelf.old }
+    ensures link { (AsksServing (map string_bytes words.now) → ⊥) → outside.new.link ≡ outside.old.link }
+    ensures shelf { outside.new.shelf.files ≡ outside.old.shelf.files }
 {
-    run_words(alloc, words, shelf, out, link)
+    run_words(alloc, words, outside)
 }
 
 /// The same, with all that is known of its outcome.
 fn run_words<H: Shelf, K: Sink, L: Link>(
     alloc: Global,
     words: &[String],
-    shelf: &mut H,
-    out: &mut K,
-    link: &mut L,
+    outside: &mut Outside<H, K, L>,
 ) -> Status
-    ensures runs { Runs (map string_bytes words.now)
-        (outside (H.files shelf.old) (H.faults shelf.old) (K.put out.old) (K.faults out.old)
-        (linked (L.journal link.old) (L.plan link.old) (L.faults link.old) (L.store_faults link.old) (L.lost link.old) (L.refusals link.old))) result
-        (outside (H.files shelf.new) (H.faults shelf.new) (K.put out.new) (K.faults out.new)
-        (linked (L.journal link.new) (L.plan link.new) (L.faults link.new) (L.store_faults link.new) (L.lost link.new) (L.refusals link.new))) }
-    ensures kept { H.files shelf.new ≡ H.files shelf.old }
+    ensures runs { Runs (map string_bytes words.now) outside.old result outside.new }
+    ensures kept { outside.new.shelf.files ≡ outside.old.shelf.files }
 {
     match read_words(alloc, words) {
-        Ok(Some(command)) => perform(alloc, command, shelf, out, link),
-        Ok(None) => print_usage(out),
+        Ok(Some(command)) => perform(alloc, command, outside),
+        Ok(None) => print_usage(&mut outside.out),
         Err(_) => Status::NoMemory,
     }
 }
@@ -138,33 +110,25 @@ fn run_words<H: Shelf, K: Sink, L: Link>(
 fn perform<H: Shelf, K: Sink, L: Link>(
     alloc: Global,
     command: Command<'_>,
-    shelf: &mut H,
-    out: &mut K,
-    link: &mut L,
+    outside: &mut Outside<H, K, L>,
 ) -> Status
     requires few { IsFew (view command) }
-    ensures performs { Performs (view command.entry)
-        (outside (H.files shelf.old) (H.faults shelf.old) (K.put out.old) (K.faults out.old)
-        (linked (L.journal link.old) (L.plan link.old) (L.faults link.old) (L.store_faults link.old) (L.lost link.old) (L.refusals link.old))) result
-        (outside (H.files shelf.new) (H.faults shelf.new) (K.put out.new) (K.faults out.new)
-        (linked (L.journal link.new) (L.plan link.new) (L.faults link.new) (L.store_faults link.new) (L.lost link.new) (L.refusals link.new))) }
-    ensures kept { H.files shelf.new ≡ H.files shelf.old }
+    ensures performs { Performs (view command.entry) outside.old result outside.new }
+    ensures kept { outside.new.shelf.files ≡ outside.old.shelf.files }
 {
     match command {
-        Command::Serve(asked) => serve(alloc, &asked, shelf, out, link),
-        Command::Replay(asked) => replay(alloc, &asked, shelf, out),
-        Command::Check(asked) => check(alloc, &asked, shelf, out),
-        Command::Why { data } => tell_why(alloc, data, shelf, out),
-        Command::Dump(asked) => dump(alloc, &asked, shelf, out),
-        Command::Explain(asked) => {
-            tell_decision(alloc, Account::Explanation, &asked, shelf, out)
-        }
-        Command::Sample { count } => sample(alloc, count, out),
-        Command::Ask(asked) => tell_replies(alloc, &asked, shelf, out),
-        Command::Prove(asked) => tell_decision(alloc, Account::Certificate, &asked, shelf, out),
-        Command::Verify(asked) => tell_validity(alloc, &asked, shelf, out),
-        Command::Rights(asked) => tell_rights(alloc, &asked, shelf, out),
-        Command::Help => print_help(out),
-        Command::Version => print_version(out),
+        Command::Serve(asked) => serve(alloc, &asked, outside),
+        Command::Replay(asked) => replay(alloc, &asked, outside),
+        Command::Check(asked) => check(alloc, &asked, outside),
+        Command::Why { data } => tell_why(alloc, data, outside),
+        Command::Dump(asked) => dump(alloc, &asked, outside),
+        Command::Explain(asked) => { tell_decision(alloc, Account::Explanation, &asked, outside) }
+        Command::Sample { count } => sample(alloc, count, outside),
+        Command::Ask(asked) => tell_replies(alloc, &asked, outside),
+        Command::Prove(asked) => tell_decision(alloc, Account::Certificate, &asked, outside),
+        Command::Verify(asked) => tell_validity(alloc, &asked, outside),
+        Command::Rights(asked) => tell_rights(alloc, &asked, outside),
+        Command::Help => print_help(&mut outside.out),
+        Command::Version => print_version(&mut outside.out),
     }
 }

@@ -9,16 +9,17 @@ ghost use Rattle.command_files.specs.aci_item.Rules.{IsGoodTree};
 ghost use Rattle.command_files.specs.loading.Loading.{LoadsData};
 ghost use Rattle.command_files.specs.Outside.{written};
 ghost use Rattle.acl_program.specs.Outcomes.{Replayed, dump_text};
-ghost use Rattle.acl_program.specs.program.Outside.{Linked, outside};
+ghost use Rattle.acl_program.specs.program.Outside.{at_count};
 ghost use Rattle.acl_program.specs.program.Playing.{Performs, Plays, Shows, Ends, dumped_text, IsDumpable};
 
+use crate::outside::Outside;
 use crate::printing::print_replay;
 use crate::status::Status;
 use crate::troubles::print_trouble;
 use aci_index::IndexedDir;
 use aci_index::directory::Dir;
 use command_files::dir_tree::Tree;
-use command_files::wire_io::{ScriptLink, Shelf, Sink};
+use command_files::wire_io::{Link, ScriptLink, Shelf, Sink};
 use command_files::{load_data, load_script};
 use command_words::Replaying;
 use session_hub::laws::sessions_keep_a_directory_good;
@@ -27,43 +28,36 @@ use std::alloc::Global;
 
 /// Loads the data file, serves the events of the script file, at most so many, and prints the lines of its connections;
 /// then the tree, if that is asked for.
-pub(crate) fn replay<H: Shelf, K: Sink>(
+pub(crate) fn replay<H: Shelf, K: Sink, L: Link>(
     alloc: Global,
     asked: &Replaying<'_>,
-    shelf: &mut H,
-    out: &mut K,
+    outside: &mut Outside<H, K, L>,
 ) -> Status
-    ensures performs { (link : Linked) →
-        Performs (Replay asked.now.data.now asked.now.script.now asked.now.turns asked.now.dump)
-        (outside (H.files shelf.old) (H.faults shelf.old) (K.put out.old) (K.faults out.old) link) result
-        (outside (H.files shelf.new) (H.faults shelf.new) (K.put out.new) (K.faults out.new) link) }
-    ensures kept { H.files shelf.new ≡ H.files shelf.old }
+    ensures performs { Performs (Replay asked.now.data.now asked.now.script.now asked.now.turns asked.now.dump) outside.old result outside.new }
+    ensures kept { outside.new.shelf.files ≡ outside.old.shelf.files }
 {
-    match load_data(alloc, shelf, asked.data) {
-        Ok(tree) => replay_over(alloc, tree, asked, shelf, out),
-        Err(trouble) => print_trouble(alloc, trouble, out),
+    match load_data(alloc, &mut outside.shelf, asked.data) {
+        Ok(tree) => replay_over(alloc, tree, asked, outside),
+        Err(trouble) => print_trouble(alloc, trouble, &mut outside.out),
     }
 }
 
 /// The same over the tree of the data file.
-fn replay_over<H: Shelf, K: Sink>(
+fn replay_over<H: Shelf, K: Sink, L: Link>(
     alloc: Global,
     tree: Tree,
     asked: &Replaying<'_>,
-    shelf: &mut H,
-    out: &mut K,
+    outside: &mut Outside<H, K, L>,
 ) -> Status
     requires good { IsGoodTree (entries_of tree) }
-    ensures performs { (link : Linked) (name : List ℕ) (before : ℕ) →
-        LoadsData (H.files shelf.old) name before (H.faults shelf.old) (Ok tree) →
-        Performs (Replay name asked.now.script.now asked.now.turns asked.now.dump)
-        (outside (H.files shelf.old) before (K.put out.old) (K.faults out.old) link) result
-        (outside (H.files shelf.new) (H.faults shelf.new) (K.put out.new) (K.faults out.new) link) }
-    ensures kept { H.files shelf.new ≡ H.files shelf.old }
+    ensures performs { (name : List ℕ) (before : ℕ) →
+        LoadsData outside.old.shelf.files name before outside.old.shelf.faults (Ok tree) →
+        Performs (Replay name asked.now.script.now asked.now.turns asked.now.dump) (at_count before outside.old) result outside.new }
+    ensures kept { outside.new.shelf.files ≡ outside.old.shelf.files }
 {
-    match load_script(alloc, shelf, asked.script) {
-        Ok(link) => play(alloc, tree, link, asked.turns, asked.dump, out),
-        Err(fault) => print_trouble(alloc, fault, out),
+    match load_script(alloc, &mut outside.shelf, asked.script) {
+        Ok(link) => play(alloc, tree, link, asked.turns, asked.dump, &mut outside.out),
+        Err(fault) => print_trouble(alloc, fault, &mut outside.out),
     }
 }
 

@@ -8,9 +8,9 @@ ghost use Rattle.certify.specs.explanation.NameWords.{target_of, who_of};
 ghost use Rattle.command_files.specs.Outside.{written};
 ghost use Rattle.acl_program.specs.Deciding.{SaysParty};
 ghost use Rattle.acl_program.specs.Outcomes.{Answered};
-ghost use Rattle.acl_program.specs.program.Outside.{Linked, outside};
 ghost use Rattle.acl_program.specs.program.Playing.{Ends, Performs};
 
+use crate::outside::Outside;
 use crate::status::Status;
 use crate::troubles::{print_trouble, print_usage};
 use aci_index::IndexedDir;
@@ -20,7 +20,7 @@ use certify::rights_text;
 use command_files::dir_tree::{NoMemory, Tree};
 use command_files::dn_names::Dn;
 use command_files::load_data;
-use command_files::wire_io::{Shelf, Sink, write_all};
+use command_files::wire_io::{Link, Shelf, Sink, write_all};
 use command_words::RightsAsked;
 use std::alloc::Global;
 
@@ -33,20 +33,17 @@ pub(crate) struct Party {
 
 /// Reads who asks and on what, loads the data file, and prints the table of rights. Where the words say no such thing it
 /// prints how to call the program, and reads no file.
-pub(crate) fn tell_rights<H: Shelf, K: Sink>(
+pub(crate) fn tell_rights<H: Shelf, K: Sink, L: Link>(
     alloc: Global,
     asked: &RightsAsked<'_>,
-    shelf: &mut H,
-    out: &mut K,
+    outside: &mut Outside<H, K, L>,
 ) -> Status
-    ensures performs { (link : Linked) → Performs (Rights asked.now.data.now asked.now.who.now asked.now.target.now)
-        (outside (H.files shelf.old) (H.faults shelf.old) (K.put out.old) (K.faults out.old) link) result
-        (outside (H.files shelf.new) (H.faults shelf.new) (K.put out.new) (K.faults out.new) link) }
-    ensures kept { H.files shelf.new ≡ H.files shelf.old }
+    ensures performs { Performs (Rights asked.now.data.now asked.now.who.now asked.now.target.now) outside.old result outside.new }
+    ensures kept { outside.new.shelf.files ≡ outside.old.shelf.files }
 {
     match read_party(alloc, asked.who, asked.target) {
-        Ok(Some(party)) => rights_over(alloc, asked.data, &party, shelf, out),
-        Ok(None) => print_usage(out),
+        Ok(Some(party)) => rights_over(alloc, asked.data, &party, outside),
+        Ok(None) => print_usage(&mut outside.out),
         Err(_) => Status::NoMemory,
     }
 }
@@ -66,23 +63,20 @@ fn read_party(alloc: Global, who: &str, target: &str) -> Result<Option<Party>, N
 }
 
 /// Loads the data file, and prints the table over its tree.
-fn rights_over<H: Shelf, K: Sink>(
+fn rights_over<H: Shelf, K: Sink, L: Link>(
     alloc: Global,
     name: &str,
     party: &Party,
-    shelf: &mut H,
-    out: &mut K,
+    outside: &mut Outside<H, K, L>,
 ) -> Status
-    ensures performs { (link : Linked) (who target : List ℕ) →
+    ensures performs { (who target : List ℕ) →
         who_of who ≡ Some party.now.who → target_of target ≡ Some party.now.target →
-        Performs (Rights name.now who target)
-        (outside (H.files shelf.old) (H.faults shelf.old) (K.put out.old) (K.faults out.old) link) result
-        (outside (H.files shelf.new) (H.faults shelf.new) (K.put out.new) (K.faults out.new) link) }
-    ensures kept { H.files shelf.new ≡ H.files shelf.old }
+        Performs (Rights name.now who target) outside.old result outside.new }
+    ensures kept { outside.new.shelf.files ≡ outside.old.shelf.files }
 {
-    match load_data(alloc, shelf, name) {
-        Ok(tree) => print_rights(alloc, tree, party, out),
-        Err(trouble) => print_trouble(alloc, trouble, out),
+    match load_data(alloc, &mut outside.shelf, name) {
+        Ok(tree) => print_rights(alloc, tree, party, &mut outside.out),
+        Err(trouble) => print_trouble(alloc, trouble, &mut outside.out),
     }
 }
 

@@ -1,7 +1,7 @@
 //! The command `sample`: a data file made in memory, half of which is hidden, and one connection that searches for each of
 //! its persons.
 
-ghost use Rattle.std.specs.Prelude.{◌≡◌, ◌≤◌, [], ℕ, Option, Ok, IfErr, IfOk, string_bytes};
+ghost use Rattle.std.specs.Prelude.{◌≡◌, ◌≤◌, [], ℕ, Ok, IfErr, IfOk, string_bytes};
 ghost use Rattle.command_words.specs.command.Command.{Sample};
 ghost use Rattle.command_files.specs.plain_values.Answers.{IsFaultOf};
 ghost use Rattle.command_files.specs.data_file.Files.{fault_of};
@@ -9,15 +9,14 @@ ghost use Rattle.command_files.specs.dir_tree.tree.Numbered.{entries_of};
 ghost use Rattle.command_files.specs.ldif_load.load.DataFile.{loads};
 ghost use Rattle.sample_input.specs.SampleFile.{sample_file};
 ghost use Rattle.sample_input.specs.SampleEvents.{sample_events};
-ghost use Rattle.command_files.specs.wire_io.Files.{Files};
 ghost use Rattle.command_files.specs.wire_io.Scripted.{fresh_link};
 ghost use Rattle.command_files.specs.Outside.{written};
 ghost use Rattle.acl_program.specs.Outcomes.{Sampled};
-ghost use Rattle.acl_program.specs.program.Outside.{Linked, outside};
 ghost use Rattle.acl_program.specs.program.Playing.{Ends, Performs};
 ghost use Rattle.acl_program.specs.Sampling.{sample_text, summary};
 
 use crate::connection::{CONNECTION, link_of, serve_link};
+use crate::outside::Outside;
 use crate::status::Status;
 use crate::troubles::print_trouble;
 use aci_index::IndexedDir;
@@ -25,23 +24,26 @@ use aci_index::directory::Dir;
 use command_files::Trouble;
 use command_files::data_file::{DataFault, load};
 use command_files::dir_tree::{NoMemory, Tree};
-use command_files::wire_io::{ScriptLink, Sink, write_all};
+use command_files::wire_io::{Link, ScriptLink, Shelf, Sink, write_all};
 use sample_input::{count_found, sample_events, sample_file};
 use std::alloc::{AllocError, Global};
 
 /// Makes a sample of so many persons, serves its connection, and prints how many entries it has, how many were sent and how
 /// many replies say that there is no such object.
-pub(crate) fn sample<K: Sink>(alloc: Global, count: u64, out: &mut K) -> Status
+pub(crate) fn sample<H: Shelf, K: Sink, L: Link>(
+    alloc: Global,
+    count: u64,
+    outside: &mut Outside<H, K, L>,
+) -> Status
     requires few { count ≤ 20000 }
-    ensures performs { (files : Option Files) (faults : ℕ) (link : Linked) → Performs (Sample count)
-        (outside files faults (K.put out.old) (K.faults out.old) link) result
-        (outside files faults (K.put out.new) (K.faults out.new) link) }
+    ensures performs { Performs (Sample count) outside.old result outside.new }
+    ensures kept { outside.new.shelf.files ≡ outside.old.shelf.files }
 {
     let count = count as u32;
     match load_sample(alloc, count) {
-        Ok(tree) => sample_over(alloc, tree, count, out),
+        Ok(tree) => sample_over(alloc, tree, count, &mut outside.out),
         Err(DataFault::Bad { line, cause }) => {
-            print_trouble(alloc, Trouble::BadData(line, cause), out)
+            print_trouble(alloc, Trouble::BadData(line, cause), &mut outside.out)
         }
         Err(DataFault::NoMemory) => Status::NoMemory,
     }

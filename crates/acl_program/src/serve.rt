@@ -6,15 +6,16 @@ ghost use Rattle.command_files.specs.declared.changing.Applied.{Applied};
 ghost use Rattle.command_files.specs.dir_tree.tree.Numbered.{entries_of};
 ghost use Rattle.command_files.specs.loading.Changing.{left_of};
 ghost use Rattle.command_files.specs.wire_io.Putting.{PutsAll, PutCause};
-ghost use Rattle.command_files.specs.Outside.{Shelved, written};
+ghost use Rattle.command_files.specs.Outside.{written};
 ghost use Rattle.acl_program.specs.serve.Listening.{Listens, ListensOn, ServesOpened, listening_asked};
 ghost use Rattle.acl_program.specs.Outcomes.{Served};
-ghost use Rattle.acl_program.specs.program.Outside.{beside, linked, outside};
+ghost use Rattle.acl_program.specs.program.Outside.{linked};
 ghost use Rattle.acl_program.specs.program.Playing.{Ends, Performs};
 ghost use Rattle.acl_program.specs.serve.Storing.{ServeAsked, StoreCall, serve_asked};
 ghost use Rattle.acl_program.specs.serve.Serving.{NotOpened, NotStored, Opens, bounds_of, ended_text, listening_text, loop_status};
 
 use crate::data::applied_text;
+use crate::outside::Outside;
 use crate::status::Status;
 use crate::storing::{Unready, make_ready};
 use crate::troubles::print_trouble;
@@ -38,83 +39,65 @@ struct ListenAsked<'a> {
 pub(crate) fn serve<H: Shelf, K: Sink, L: Link>(
     alloc: Global,
     asked: &Serving<'_>,
-    shelf: &mut H,
-    out: &mut K,
-    link: &mut L,
+    outside: &mut Outside<H, K, L>,
 ) -> Status
-    ensures performs { Performs (Serve (serving_view asked.now))
-        (outside (H.files shelf.old) (H.faults shelf.old) (K.put out.old) (K.faults out.old)
-        (linked (L.journal link.old) (L.plan link.old) (L.faults link.old) (L.store_faults link.old) (L.lost link.old) (L.refusals link.old))) result
-        (outside (H.files shelf.new) (H.faults shelf.new) (K.put out.new) (K.faults out.new)
-        (linked (L.journal link.new) (L.plan link.new) (L.faults link.new) (L.store_faults link.new) (L.lost link.new) (L.refusals link.new))) }
-    ensures kept { H.files shelf.new ≡ H.files shelf.old }
+    ensures performs { Performs (Serve (serving_view asked.now)) outside.old result outside.new }
+    ensures kept { outside.new.shelf.files ≡ outside.old.shelf.files }
 {
-    match make_ready(alloc, asked, shelf, link) {
-        Ok(loaded) => listen_for(alloc, loaded, asked, out, link),
-        Err(Unready::Files(trouble)) => print_trouble(alloc, trouble, out),
-        Err(Unready::Store(fault)) => print_store_fault(fault, out),
+    match make_ready(alloc, asked, outside) {
+        Ok(loaded) => listen_for(alloc, loaded, asked, outside),
+        Err(Unready::Files(trouble)) => print_trouble(alloc, trouble, &mut outside.out),
+        Err(Unready::Store(fault)) => print_store_fault(fault, &mut outside.out),
     }
 }
 
 /// Opens the link and serves what is ready over it.
-fn listen_for<K: Sink, L: Link>(
+fn listen_for<H: Shelf, K: Sink, L: Link>(
     alloc: Global,
     loaded: Loaded,
     asked: &Serving<'_>,
-    out: &mut K,
-    link: &mut L,
+    outside: &mut Outside<H, K, L>,
 ) -> Status
-    ensures listens { (shelf : Shelved) (content : List ℕ) → Listens
-        (serve_asked (serving_view asked.now) content (left_of loaded))
-        (beside shelf (written (K.put out.old) (K.faults out.old))
-        (linked (L.journal link.old) (L.plan link.old) (L.faults link.old) (L.store_faults link.old) (L.lost link.old) (L.refusals link.old))) result
-        (beside shelf (written (K.put out.new) (K.faults out.new))
-        (linked (L.journal link.new) (L.plan link.new) (L.faults link.new) (L.store_faults link.new) (L.lost link.new) (L.refusals link.new))) }
+    ensures listens { (content : List ℕ) → Listens
+        (serve_asked (serving_view asked.now) content (left_of loaded)) outside.old result outside.new }
+    ensures kept { outside.new.shelf ≡ outside.old.shelf }
 {
     let Loaded { tree, applied } = loaded;
     let serving = *asked;
-    listen(alloc, tree, &ListenAsked { serving, applied }, out, link)
+    listen(alloc, tree, &ListenAsked { serving, applied }, outside)
 }
 
 /// Opens the link and serves the tree over it.
-fn listen<K: Sink, L: Link>(
+fn listen<H: Shelf, K: Sink, L: Link>(
     alloc: Global,
     tree: Tree,
     asked: &ListenAsked<'_>,
-    out: &mut K,
-    link: &mut L,
+    outside: &mut Outside<H, K, L>,
 ) -> Status
-    ensures listens { (shelf : Shelved) (content : List ℕ) → Listens
-        (listening_asked asked.now content (entries_of tree))
-        (beside shelf (written (K.put out.old) (K.faults out.old))
-        (linked (L.journal link.old) (L.plan link.old) (L.faults link.old) (L.store_faults link.old) (L.lost link.old) (L.refusals link.old))) result
-        (beside shelf (written (K.put out.new) (K.faults out.new))
-        (linked (L.journal link.new) (L.plan link.new) (L.faults link.new) (L.store_faults link.new) (L.lost link.new) (L.refusals link.new))) }
+    ensures listens { (content : List ℕ) → Listens
+        (listening_asked asked.now content (entries_of tree)) outside.old result outside.new }
+    ensures kept { outside.new.shelf ≡ outside.old.shelf }
 {
     match IndexedDir::new(alloc, tree) {
-        Ok(dir) => listen_on(alloc, dir, asked, out, link),
+        Ok(dir) => listen_on(alloc, dir, asked, outside),
         Err(_) => Status::NoMemory,
     }
 }
 
 /// Opens the link and serves the directory over it.
-fn listen_on<K: Sink, L: Link>(
+fn listen_on<H: Shelf, K: Sink, L: Link>(
     alloc: Global,
     dir: IndexedDir,
     asked: &ListenAsked<'_>,
-    out: &mut K,
-    link: &mut L,
+    outside: &mut Outside<H, K, L>,
 ) -> Status
-    ensures listens { (shelf : Shelved) (content : List ℕ) → Listens
-        (listening_asked asked.now content (entries_of dir))
-        (beside shelf (written (K.put out.old) (K.faults out.old))
-        (linked (L.journal link.old) (L.plan link.old) (L.faults link.old) (L.store_faults link.old) (L.lost link.old) (L.refusals link.old))) result
-        (beside shelf (written (K.put out.new) (K.faults out.new))
-        (linked (L.journal link.new) (L.plan link.new) (L.faults link.new) (L.store_faults link.new) (L.lost link.new) (L.refusals link.new))) }
+    ensures listens { (content : List ℕ) → Listens
+        (listening_asked asked.now content (entries_of dir)) outside.old result outside.new }
+    ensures kept { outside.new.shelf ≡ outside.old.shelf }
 {
-    match open(&asked.serving, link) {
-        Ok(()) => serve_opened(alloc, dir, asked, out, link),
-        Err(NextFault::Failed) => print_link_fault(out),
+    match open(&asked.serving, &mut outside.link) {
+        Ok(()) => serve_opened(alloc, dir, asked, outside),
+        Err(NextFault::Failed) => print_link_fault(&mut outside.out),
         Err(NextFault::NoMemory) => Status::NoMemory,
     }
 }
@@ -130,22 +113,18 @@ fn open<L: Link>(asked: &Serving<'_>, link: &mut L) -> Result<(), NextFault>
 }
 
 /// Prints that the link is open, and then serves the directory over it.
-fn serve_opened<K: Sink, L: Link>(
+fn serve_opened<H: Shelf, K: Sink, L: Link>(
     alloc: Global,
     dir: IndexedDir,
     asked: &ListenAsked<'_>,
-    out: &mut K,
-    link: &mut L,
+    outside: &mut Outside<H, K, L>,
 ) -> Status
-    ensures opened { (shelf : Shelved) (content : List ℕ) → ListensOn
-        (listening_asked asked.now content (entries_of dir))
-        (beside shelf (written (K.put out.old) (K.faults out.old))
-        (linked (L.journal link.old) (L.plan link.old) (L.faults link.old) (L.store_faults link.old) (L.lost link.old) (L.refusals link.old))) result
-        (beside shelf (written (K.put out.new) (K.faults out.new))
-        (linked (L.journal link.new) (L.plan link.new) (L.faults link.new) (L.store_faults link.new) (L.lost link.new) (L.refusals link.new))) }
+    ensures opened { (content : List ℕ) → ListensOn
+        (listening_asked asked.now content (entries_of dir)) outside.old result outside.new }
+    ensures kept { outside.new.shelf ≡ outside.old.shelf }
 {
-    match print_listening(alloc, asked, out) {
-        Ok(()) => serve_events(alloc, dir, &asked.serving, out, link),
+    match print_listening(alloc, asked, &mut outside.out) {
+        Ok(()) => serve_events(alloc, dir, &asked.serving, outside),
         Err(fault) => Status::NoMemory.after(Err(fault)),
     }
 }
@@ -177,23 +156,25 @@ fn listening_line(
 }
 
 /// Serves the directory over the open link, and prints why the loop ended, where a line says that.
-fn serve_events<K: Sink, L: Link>(
+fn serve_events<H: Shelf, K: Sink, L: Link>(
     alloc: Global,
     dir: IndexedDir,
     asked: &Serving<'_>,
-    out: &mut K,
-    link: &mut L,
+    outside: &mut Outside<H, K, L>,
 ) -> Status
-    ensures serves { (shelf : Shelved) (content : List ℕ) (applied : Option Applied) → ServesOpened
-        (serve_asked (serving_view asked.now) content (record { entries = entries_of dir; applied = applied }))
-        (beside shelf (written (K.put out.old) (K.faults out.old))
-        (linked (L.journal link.old) (L.plan link.old) (L.faults link.old) (L.store_faults link.old) (L.lost link.old) (L.refusals link.old))) result
-        (beside shelf (written (K.put out.new) (K.faults out.new))
-        (linked (L.journal link.new) (L.plan link.new) (L.faults link.new) (L.store_faults link.new) (L.lost link.new) (L.refusals link.new))) }
+    ensures serves { (content : List ℕ) (applied : Option Applied) → ServesOpened
+        (serve_asked (serving_view asked.now) content (record { entries = entries_of dir; applied = applied })) outside.old result outside.new }
+    ensures kept { outside.new.shelf ≡ outside.old.shelf }
 {
     let mut dir = dir;
-    let ended = serve_loop(alloc, &mut dir, link, asked.turns, bounds_of(asked));
-    let put = write_all(out, ended_text(ended).as_bytes());
+    let ended = serve_loop(
+        alloc,
+        &mut dir,
+        &mut outside.link,
+        asked.turns,
+        bounds_of(asked),
+    );
+    let put = write_all(&mut outside.out, ended_text(ended).as_bytes());
     loop_status(ended).after(put)
 }
 

@@ -5,12 +5,14 @@ ghost use Rattle.command_files.specs.aci_item.Rules.{IsGoodTree};
 ghost use Rattle.command_files.specs.dir_tree.tree.Numbered.{entries_of};
 ghost use Rattle.command_files.specs.loading.Changing.{head_of, left_of, unchanged};
 ghost use Rattle.command_files.specs.loading.Loading.{LoadsFile};
+ghost use Rattle.command_files.specs.Outside.{shelved};
 ghost use Rattle.command_words.specs.command.Command.{ServingView, serving_view};
-ghost use Rattle.acl_program.specs.program.Outside.{Linked, linked};
-ghost use Rattle.acl_program.specs.serve.Listening.{Prepares, Readies};
+ghost use Rattle.acl_program.specs.program.Outside.{Linked, at_count, beside, linked};
+ghost use Rattle.acl_program.specs.serve.Listening.{MakesReady, Prepares};
 ghost use Rattle.acl_program.specs.serve.Storing.{OpensStore, Stores, whole_of};
 
-use command_files::wire_io::{Link, NextFault, Shelf};
+use crate::outside::Outside;
+use command_files::wire_io::{Link, NextFault, Shelf, Sink};
 use command_files::{Applied, DataFile, Loaded, Trouble, head_of, load_changes, load_file};
 use command_words::Serving;
 use std::alloc::Global;
@@ -26,20 +28,18 @@ pub(crate) enum Unready {
 
 /// Loads the data file. Where a file of changes is named, its store is opened, the changes are applied, the store is cut to
 /// what is whole of them, and the head of the data file is stored where nothing is.
-pub(crate) fn make_ready<H: Shelf, L: Link>(
+pub(crate) fn make_ready<H: Shelf, K: Sink, L: Link>(
     alloc: Global,
     asked: &Serving<'_>,
-    shelf: &mut H,
-    link: &mut L,
+    outside: &mut Outside<H, K, L>,
 ) -> Result<Loaded, Unready>
-    ensures readies { Readies (serving_view asked.now) (H.files shelf.old) (H.faults shelf.old) (H.faults shelf.new)
-        (linked (L.journal link.old) (L.plan link.old) (L.faults link.old) (L.store_faults link.old) (L.lost link.old) (L.refusals link.old)) result
-        (linked (L.journal link.new) (L.plan link.new) (L.faults link.new) (L.store_faults link.new) (L.lost link.new) (L.refusals link.new)) }
-    ensures kept { H.files shelf.new ≡ H.files shelf.old }
+    ensures readies { MakesReady (serving_view asked.now) outside.old result outside.new }
+    ensures kept { outside.new.shelf.files ≡ outside.old.shelf.files }
+    ensures out { outside.new.out ≡ outside.old.out }
 {
-    match load_file(alloc, shelf, asked.data) {
+    match load_file(alloc, &mut outside.shelf, asked.data) {
         Ok(file) => match asked.changes {
-            Some(changes) => open_store(alloc, file, changes, shelf, link),
+            Some(changes) => open_store(alloc, file, changes, outside),
             None => Ok(unchanged(file)),
         },
         Err(trouble) => Err(Unready::Files(trouble)),
@@ -58,48 +58,44 @@ fn unchanged(file: DataFile) -> Loaded
 }
 
 /// Opens the store of the changes of a data file, and makes it ready.
-fn open_store<H: Shelf, L: Link>(
+fn open_store<H: Shelf, K: Sink, L: Link>(
     alloc: Global,
     file: DataFile,
     changes: &str,
-    shelf: &mut H,
-    link: &mut L,
+    outside: &mut Outside<H, K, L>,
 ) -> Result<Loaded, Unready>
     requires good { IsGoodTree (entries_of file.tree) }
     ensures readies { (serving : ServingView) (count : ℕ) → serving.changes ≡ Some changes.now
-        → LoadsFile (H.files shelf.old) serving.data_file count (H.faults shelf.old) (Ok file)
-        → Readies serving (H.files shelf.old) count (H.faults shelf.new)
-        (linked (L.journal link.old) (L.plan link.old) (L.faults link.old) (L.store_faults link.old) (L.lost link.old) (L.refusals link.old)) result
-        (linked (L.journal link.new) (L.plan link.new) (L.faults link.new) (L.store_faults link.new) (L.lost link.new) (L.refusals link.new)) }
-    ensures kept { H.files shelf.new ≡ H.files shelf.old }
+        → LoadsFile outside.old.shelf.files serving.data_file count outside.old.shelf.faults (Ok file)
+        → MakesReady serving (at_count count outside.old) result outside.new }
+    ensures kept { outside.new.shelf.files ≡ outside.old.shelf.files }
+    ensures out { outside.new.out ≡ outside.old.out }
 {
-    match link.open_store(changes) {
-        Ok(()) => read_store(alloc, file, changes, shelf, link),
+    match outside.link.open_store(changes) {
+        Ok(()) => read_store(alloc, file, changes, outside),
         Err(fault) => Err(Unready::Store(fault)),
     }
 }
 
 /// Applies the changes of the store that was opened to the data file's tree, and cuts it to what is whole.
-fn read_store<H: Shelf, L: Link>(
+fn read_store<H: Shelf, K: Sink, L: Link>(
     alloc: Global,
     file: DataFile,
     changes: &str,
-    shelf: &mut H,
-    link: &mut L,
+    outside: &mut Outside<H, K, L>,
 ) -> Result<Loaded, Unready>
     requires good { IsGoodTree (entries_of file.tree) }
     ensures readies { (serving : ServingView) (count : ℕ) (before : Linked) → serving.changes ≡ Some changes.now
-        → LoadsFile (H.files shelf.old) serving.data_file count (H.faults shelf.old) (Ok file)
-        → OpensStore (Some changes.now) (Ok tt) before
-        (linked (L.journal link.old) (L.plan link.old) (L.faults link.old) (L.store_faults link.old) (L.lost link.old) (L.refusals link.old))
-        → Readies serving (H.files shelf.old) count (H.faults shelf.new) before result
-        (linked (L.journal link.new) (L.plan link.new) (L.faults link.new) (L.store_faults link.new) (L.lost link.new) (L.refusals link.new)) }
-    ensures kept { H.files shelf.new ≡ H.files shelf.old }
+        → LoadsFile outside.old.shelf.files serving.data_file count outside.old.shelf.faults (Ok file)
+        → OpensStore (Some changes.now) (Ok tt) before outside.old.link
+        → MakesReady serving (beside (shelved outside.old.shelf.files count) outside.old.out before) result outside.new }
+    ensures kept { outside.new.shelf.files ≡ outside.old.shelf.files }
+    ensures out { outside.new.out ≡ outside.old.out }
 {
     let DataFile { content, tree } = file;
     let content = content.as_slice();
-    match load_changes(alloc, shelf, tree, content, changes) {
-        Ok(loaded) => match cut_store(alloc, content, whole_of(loaded.applied), link) {
+    match load_changes(alloc, &mut outside.shelf, tree, content, changes) {
+        Ok(loaded) => match cut_store(alloc, content, whole_of(loaded.applied), &mut outside.link) {
             Ok(()) => Ok(loaded),
             Err(fault) => Err(Unready::Store(fault)),
         },

@@ -8,55 +8,50 @@ ghost use Rattle.command_files.specs.Outside.{written};
 ghost use Rattle.acl_program.specs.Answering.{valid_text};
 ghost use Rattle.acl_program.specs.Deciding.{EndsVerified, outcome_of_fault};
 ghost use Rattle.acl_program.specs.Outcomes.{Answered, FalseLine, status_of, text_of};
-ghost use Rattle.acl_program.specs.program.Outside.{Linked, outside};
+ghost use Rattle.acl_program.specs.program.Outside.{at_count};
 ghost use Rattle.acl_program.specs.program.Playing.{Ends, Performs};
 
+use crate::outside::Outside;
 use crate::status::Status;
 use crate::troubles::print_trouble;
 use certify::{CertFault, verify};
 use command_files::dir_tree::Tree;
-use command_files::wire_io::{Shelf, Sink, write_all};
+use command_files::wire_io::{Link, Shelf, Sink, write_all};
 use command_files::{SecondFile, Trouble, load_certificate, load_data};
 use command_words::Verifying;
 use std::alloc::{AllocError, Global};
 
 /// Loads the data file, reads the certificate, and prints whether it is that of the tree. The tree alone is asked, and no
 /// index of it.
-pub(crate) fn tell_validity<H: Shelf, K: Sink>(
+pub(crate) fn tell_validity<H: Shelf, K: Sink, L: Link>(
     alloc: Global,
     asked: &Verifying<'_>,
-    shelf: &mut H,
-    out: &mut K,
+    outside: &mut Outside<H, K, L>,
 ) -> Status
-    ensures performs { (link : Linked) → Performs (Verify asked.now.data.now asked.now.certificate.now)
-        (outside (H.files shelf.old) (H.faults shelf.old) (K.put out.old) (K.faults out.old) link) result
-        (outside (H.files shelf.new) (H.faults shelf.new) (K.put out.new) (K.faults out.new) link) }
-    ensures kept { H.files shelf.new ≡ H.files shelf.old }
+    ensures performs { Performs (Verify asked.now.data.now asked.now.certificate.now) outside.old result outside.new }
+    ensures kept { outside.new.shelf.files ≡ outside.old.shelf.files }
 {
-    match load_data(alloc, shelf, asked.data) {
-        Ok(tree) => verify_over(alloc, &tree, asked.certificate, shelf, out),
-        Err(trouble) => print_trouble(alloc, trouble, out),
+    match load_data(alloc, &mut outside.shelf, asked.data) {
+        Ok(tree) => verify_over(alloc, &tree, asked.certificate, outside),
+        Err(trouble) => print_trouble(alloc, trouble, &mut outside.out),
     }
 }
 
 /// The same over the tree of the data file.
-fn verify_over<H: Shelf, K: Sink>(
+fn verify_over<H: Shelf, K: Sink, L: Link>(
     alloc: Global,
     tree: &Tree,
     certificate: &str,
-    shelf: &mut H,
-    out: &mut K,
+    outside: &mut Outside<H, K, L>,
 ) -> Status
-    ensures performs { (link : Linked) (name : List ℕ) (before : ℕ) →
-        LoadsData (H.files shelf.old) name before (H.faults shelf.old) (Ok tree.now) →
-        Performs (Verify name certificate.now)
-        (outside (H.files shelf.old) before (K.put out.old) (K.faults out.old) link) result
-        (outside (H.files shelf.new) (H.faults shelf.new) (K.put out.new) (K.faults out.new) link) }
-    ensures kept { H.files shelf.new ≡ H.files shelf.old }
+    ensures performs { (name : List ℕ) (before : ℕ) →
+        LoadsData outside.old.shelf.files name before outside.old.shelf.faults (Ok tree.now) →
+        Performs (Verify name certificate.now) (at_count before outside.old) result outside.new }
+    ensures kept { outside.new.shelf.files ≡ outside.old.shelf.files }
 {
-    match load_certificate(alloc, shelf, certificate) {
-        Ok(text) => verify_text(alloc, tree, text.as_slice(), out),
-        Err(trouble) => print_trouble(alloc, trouble, out),
+    match load_certificate(alloc, &mut outside.shelf, certificate) {
+        Ok(text) => verify_text(alloc, tree, text.as_slice(), &mut outside.out),
+        Err(trouble) => print_trouble(alloc, trouble, &mut outside.out),
     }
 }
 

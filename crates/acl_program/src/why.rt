@@ -11,35 +11,32 @@ ghost use Rattle.fault_places.specs.Refusals.{refusal_text};
 ghost use Rattle.acl_program.specs.Answering.{why_text};
 ghost use Rattle.acl_program.specs.Deciding.{EndsWhy};
 ghost use Rattle.acl_program.specs.Outcomes.{Answered, Explained};
-ghost use Rattle.acl_program.specs.program.Outside.{Linked, outside};
 ghost use Rattle.acl_program.specs.program.Playing.{Ends, Performs};
 
 use crate::data::count_subentries;
+use crate::outside::Outside;
 use crate::status::Status;
 use crate::troubles::print_trouble;
 use command_files::data_file::{DataCause, DataFault, load};
 use command_files::dir_tree::Tree;
-use command_files::wire_io::{Shelf, Sink, write_all};
+use command_files::wire_io::{Link, Shelf, Sink, write_all};
 use command_files::{bad_data_text, load_content};
 use data_advice::advice;
 use fault_places::why_refused;
 use std::alloc::{AllocError, Global};
 
 /// Reads the data file, and prints what is told of it.
-pub(crate) fn tell_why<H: Shelf, K: Sink>(
+pub(crate) fn tell_why<H: Shelf, K: Sink, L: Link>(
     alloc: Global,
     name: &str,
-    shelf: &mut H,
-    out: &mut K,
+    outside: &mut Outside<H, K, L>,
 ) -> Status
-    ensures performs { (link : Linked) → Performs (Why name.now)
-        (outside (H.files shelf.old) (H.faults shelf.old) (K.put out.old) (K.faults out.old) link) result
-        (outside (H.files shelf.new) (H.faults shelf.new) (K.put out.new) (K.faults out.new) link) }
-    ensures kept { H.files shelf.new ≡ H.files shelf.old }
+    ensures performs { Performs (Why name.now) outside.old result outside.new }
+    ensures kept { outside.new.shelf.files ≡ outside.old.shelf.files }
 {
-    match load_content(alloc, shelf, name) {
-        Ok(content) => print_why(alloc, content.as_slice(), out),
-        Err(trouble) => print_trouble(alloc, trouble, out),
+    match load_content(alloc, &mut outside.shelf, name) {
+        Ok(content) => print_why(alloc, content.as_slice(), &mut outside.out),
+        Err(trouble) => print_trouble(alloc, trouble, &mut outside.out),
     }
 }
 

@@ -2,7 +2,7 @@
 //! and ends with the number of its status. Both the words and the texts are those of `acl_program`.
 #![tactic(auto)]
 
-use acl_program::{Status, run};
+use acl_program::{Outside, Status, run};
 use mio_link::MioLink;
 use std::alloc::AllocError;
 use std::env;
@@ -19,10 +19,12 @@ fn main(rt: HostRuntime) -> ExitCode {
 fn start(rt: &HostRuntime) -> Result<Status, AllocError> {
     let alloc = rt.alloc();
     let words = words_of(rt)?;
-    let mut shelf = FileShelf::new(rt.clone()?);
-    let mut out = StdSink::new(rt.clone()?);
-    let mut link = MioLink::new(rt.clone()?, alloc)?;
-    Ok(run(alloc, words.as_slice(), &mut shelf, &mut out, &mut link))
+    let mut outside = Outside {
+        shelf: FileShelf::new(rt.clone()?),
+        out: StdSink::new(rt.clone()?),
+        link: MioLink::new(rt.clone()?, alloc)?,
+    };
+    Ok(run(alloc, words.as_slice(), &mut outside))
 }
 
 /// The words after the program's name; none where one of them is no text.

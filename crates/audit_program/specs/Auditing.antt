@@ -11,7 +11,7 @@ use Rattle.command_files.specs.ldif_load.load.DataFile.{FileCause}
 use Rattle.command_files.specs.declared.loading.SecondFile.TheVariants as second
 use Rattle.command_files.specs.loading.Accepting.{IsUnread, HoldsIn, FailsIn, IsTold, IsGoodData, IsBadData, IsGoodScript, IsBadScript}
 use Rattle.command_files.specs.Ending.{EndsBy}
-use Rattle.command_files.specs.Outside.{Shelved, Written}
+use Rattle.command_files.specs.Outside.{Shelved, Written, shelved}
 use Rattle.command_files.specs.Troubles.{no_file_text, bad_data_text, bad_line_text}
 use Rattle.session_hub.specs.session_model.Run.{Step}
 use Rattle.session_hub.specs.session_model.Journaled.{steps_of_events}
@@ -95,9 +95,13 @@ pub record Outside : Type 0 where
   pub shelf : Shelved
   pub out : Written
 
--- the same by what a shelf and a sink tell, and their counts
-abbrev pub outside : Option Files → ℕ → Option (List ℕ) → ℕ → Outside
-outside files shelf_faults put sink_faults = record { shelf = record { files = files; faults = shelf_faults }; out = record { put = put; faults = sink_faults } }
+-- the same by its parts
+abbrev pub beside : Shelved → Written → Outside
+beside shelf out = record { shelf = shelf; out = out }
+
+-- the same while its shelf had counted so many faults
+abbrev pub at_count : ℕ → Outside → Outside
+at_count count outside = beside (shelved outside.shelf.files count) outside.out
 
 -- it put the text that it came to, and ended so; or a front of it, with the status of a sink that refused or of no memory
 unfoldable pub Prints : List (List ℕ) → Outside → AuditStatus → Outside → Type 0

@@ -3,6 +3,7 @@
 #![tactic(auto)]
 
 mod auditing;
+mod outside;
 mod printing;
 mod program;
 mod status;
@@ -11,6 +12,7 @@ mod words;
 
 pub use auditing::audit_script;
 pub use hush_laws::{Audited, Fault, Part};
+pub use outside::Outside;
 pub use program::audit;
 pub use status::AuditStatus;
 pub use words::{Asked, read_words};

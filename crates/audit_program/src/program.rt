@@ -7,11 +7,12 @@ ghost use Rattle.command_files.specs.dir_tree.tree.Numbered.{entries_of};
 ghost use Rattle.command_files.specs.loading.Loading.{LoadsData};
 ghost use Rattle.command_files.specs.wire_io.Scripted.{fresh_link};
 ghost use Rattle.command_files.specs.Outside.{written};
-ghost use Rattle.audit_program.specs.Auditing.{Prints, PutsAudit, IsDue, IsCause, EndsAtFaults, outside};
+ghost use Rattle.audit_program.specs.Auditing.{Prints, PutsAudit, IsDue, IsCause, EndsAtFaults, at_count};
 ghost use Rattle.audit_program.specs.Performing.{Performs, Tells};
 ghost use Rattle.audit_program.specs.Words.{audit_of, view};
 
 use crate::auditing::audit_script;
+use crate::outside::Outside;
 use crate::printing::print_audit;
 use crate::status::AuditStatus;
 use crate::troubles::{print_trouble, print_usage};
@@ -35,49 +36,37 @@ use std::alloc::Global;
 pub fn audit<H: Shelf, K: Sink>(
     alloc: Global,
     words: &[String],
-    shelf: &mut H,
-    out: &mut K,
+    outside: &mut Outside<H, K>,
 ) -> AuditStatus
     // what is put: the text that the words and the files come to, with its status; or a front of it
-    ensures text { Prints (map string_bytes words.now)
-        (outside (H.files shelf.old) (H.faults shelf.old) (K.put out.old) (K.faults out.old)) result
-        (outside (H.files shelf.new) (H.faults shelf.new) (K.put out.new) (K.faults out.new)) }
+    ensures text { Prints (map string_bytes words.now) outside.old result outside.new }
     // where it is done, both lines of an audit, in which nothing differs where the hush was kept
-    ensures done { result ≡ AuditStatus.Done → PutsAudit (map string_bytes words.now)
-        (outside (H.files shelf.old) (H.faults shelf.old) (K.put out.old) (K.faults out.old))
-        (outside (H.files shelf.new) (H.faults shelf.new) (K.put out.new) (K.faults out.new)) }
+    ensures done { result ≡ AuditStatus.Done → PutsAudit (map string_bytes words.now) outside.old outside.new }
     // where the files are told and accepted, it is done
-    ensures complete { IsDue (map string_bytes words.now) (H.files shelf.old)
-        → (Rose (H.faults shelf.old) (H.faults shelf.new) → ⊥) → (Rose (K.faults out.old) (K.faults out.new) → ⊥)
+    ensures complete { IsDue (map string_bytes words.now) outside.old.shelf.files
+        → (Rose outside.old.shelf.faults outside.new.shelf.faults → ⊥) → (Rose outside.old.out.faults outside.new.out.faults → ⊥)
         → (result ≡ AuditStatus.Done) ⊎ (result ≡ AuditStatus.NoMemory) }
     // each refusal
-    ensures cause { IsCause (map string_bytes words.now)
-        (outside (H.files shelf.old) (H.faults shelf.old) (K.put out.old) (K.faults out.old))
-        (outside (H.files shelf.new) (H.faults shelf.new) (K.put out.new) (K.faults out.new)) result }
-    ensures faults { EndsAtFaults
-        (outside (H.files shelf.old) (H.faults shelf.old) (K.put out.old) (K.faults out.old))
-        (outside (H.files shelf.new) (H.faults shelf.new) (K.put out.new) (K.faults out.new)) result }
+    ensures cause { IsCause (map string_bytes words.now) outside.old outside.new result }
+    ensures faults { EndsAtFaults outside.old outside.new result }
     // what stays
-    ensures shelf { H.files shelf.new ≡ H.files shelf.old }
+    ensures shelf { outside.new.shelf.files ≡ outside.old.shelf.files }
 {
-    audit_words(alloc, words, shelf, out)
+    audit_words(alloc, words, outside)
 }
 
 /// The same, with all that is known of how it ended.
 fn audit_words<H: Shelf, K: Sink>(
     alloc: Global,
     words: &[String],
-    shelf: &mut H,
-    out: &mut K,
+    outside: &mut Outside<H, K>,
 ) -> AuditStatus
-    ensures prints { Prints (map string_bytes words.now)
-        (outside (H.files shelf.old) (H.faults shelf.old) (K.put out.old) (K.faults out.old)) result
-        (outside (H.files shelf.new) (H.faults shelf.new) (K.put out.new) (K.faults out.new)) }
-    ensures kept { H.files shelf.new ≡ H.files shelf.old }
+    ensures prints { Prints (map string_bytes words.now) outside.old result outside.new }
+    ensures kept { outside.new.shelf.files ≡ outside.old.shelf.files }
 {
     match read_words(alloc, words) {
-        Ok(Some(asked)) => audit_files(alloc, &asked, shelf, out),
-        Ok(None) => print_usage(out),
+        Ok(Some(asked)) => audit_files(alloc, &asked, outside),
+        Ok(None) => print_usage(&mut outside.out),
         Err(_) => AuditStatus::NoMemory,
     }
 }
@@ -86,17 +75,14 @@ fn audit_words<H: Shelf, K: Sink>(
 fn audit_files<H: Shelf, K: Sink>(
     alloc: Global,
     asked: &Asked<'_>,
-    shelf: &mut H,
-    out: &mut K,
+    outside: &mut Outside<H, K>,
 ) -> AuditStatus
-    ensures performs { Performs (view asked.now)
-        (outside (H.files shelf.old) (H.faults shelf.old) (K.put out.old) (K.faults out.old)) result
-        (outside (H.files shelf.new) (H.faults shelf.new) (K.put out.new) (K.faults out.new)) }
-    ensures kept { H.files shelf.new ≡ H.files shelf.old }
+    ensures performs { Performs (view asked.now) outside.old result outside.new }
+    ensures kept { outside.new.shelf.files ≡ outside.old.shelf.files }
 {
-    match load_data(alloc, shelf, asked.data) {
-        Ok(tree) => audit_over(alloc, tree, asked, shelf, out),
-        Err(trouble) => print_trouble(alloc, trouble, out),
+    match load_data(alloc, &mut outside.shelf, asked.data) {
+        Ok(tree) => audit_over(alloc, tree, asked, outside),
+        Err(trouble) => print_trouble(alloc, trouble, &mut outside.out),
     }
 }
 
@@ -105,20 +91,17 @@ fn audit_over<H: Shelf, K: Sink>(
     alloc: Global,
     tree: Tree,
     asked: &Asked<'_>,
-    shelf: &mut H,
-    out: &mut K,
+    outside: &mut Outside<H, K>,
 ) -> AuditStatus
     requires good { IsGoodTree (entries_of tree) }
     ensures performs { (name : List ℕ) (before : ℕ) →
-        LoadsData (H.files shelf.old) name before (H.faults shelf.old) (Ok tree) →
-        Performs (audit_of name asked.now.script.now asked.now.number asked.now.top)
-        (outside (H.files shelf.old) before (K.put out.old) (K.faults out.old)) result
-        (outside (H.files shelf.new) (H.faults shelf.new) (K.put out.new) (K.faults out.new)) }
-    ensures kept { H.files shelf.new ≡ H.files shelf.old }
+        LoadsData outside.old.shelf.files name before outside.old.shelf.faults (Ok tree) →
+        Performs (audit_of name asked.now.script.now asked.now.number asked.now.top) (at_count before outside.old) result outside.new }
+    ensures kept { outside.new.shelf.files ≡ outside.old.shelf.files }
 {
-    match load_script(alloc, shelf, asked.script) {
-        Ok(link) => tell_audit(alloc, tree, link, asked, out),
-        Err(trouble) => print_trouble(alloc, trouble, out),
+    match load_script(alloc, &mut outside.shelf, asked.script) {
+        Ok(link) => tell_audit(alloc, tree, link, asked, &mut outside.out),
+        Err(trouble) => print_trouble(alloc, trouble, &mut outside.out),
     }
 }
 

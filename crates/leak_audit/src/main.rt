@@ -2,7 +2,7 @@
 //! Both the words and the texts are those of `audit_program`.
 #![tactic(auto)]
 
-use audit_program::{AuditStatus, audit};
+use audit_program::{AuditStatus, Outside, audit};
 use std::alloc::AllocError;
 use std::env;
 use std::io::ErrorKind;
@@ -18,9 +18,11 @@ fn main(rt: HostRuntime) -> ExitCode {
 fn start(rt: &HostRuntime) -> Result<AuditStatus, AllocError> {
     let alloc = rt.alloc();
     let words = words_of(rt)?;
-    let mut shelf = FileShelf::new(rt.clone()?);
-    let mut out = StdSink::new(rt.clone()?);
-    Ok(audit(alloc, words.as_slice(), &mut shelf, &mut out))
+    let mut outside = Outside {
+        shelf: FileShelf::new(rt.clone()?),
+        out: StdSink::new(rt.clone()?),
+    };
+    Ok(audit(alloc, words.as_slice(), &mut outside))
 }
 
 /// The words after the program's name; none where one of them is no text.

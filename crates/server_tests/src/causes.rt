@@ -56,8 +56,7 @@ fn run_row(alloc: Global, row: &Row) -> Result<Ran, AllocError> {
         shelf,
         sink,
     };
-    let mut link = link_of(alloc, "")?;
-    run_with(alloc, &start, &mut link)
+    run_with(alloc, &start, link_of(alloc, "")?)
 }
 
 #[test]

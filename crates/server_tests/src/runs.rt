@@ -1,14 +1,15 @@
 //! The program run in memory.
 
-use acl_program::{Status, run};
+use acl_program::{Outside, Status, run};
 use std::alloc::{AllocError, Global};
 use wire_io::{MemShelf, MemSink, ScriptLink};
 
-/// How a run ended, and what it put.
-#[derive(Debug, Drop)]
+/// How a run ended, what it put, and the link that it left.
+#[derive(Drop)]
 pub struct Ran {
     pub status: Status,
     pub put: String,
+    pub link: ScriptLink,
 }
 
 impl Ran {
@@ -65,28 +66,30 @@ pub fn link_of(alloc: Global, script: &str) -> Result<ScriptLink, AllocError> {
 }
 
 /// Runs the program with this link.
-pub fn run_with(
-    alloc: Global,
-    start: &Start<'_>,
-    link: &mut ScriptLink,
-) -> Result<Ran, AllocError> {
-    let mut shelf = shelf_of(alloc, start)?;
-    run_over(alloc, start.line, &mut shelf, start.sink, link)
+pub fn run_with(alloc: Global, start: &Start<'_>, link: ScriptLink) -> Result<Ran, AllocError> {
+    let outside = Outside {
+        shelf: shelf_of(alloc, start)?,
+        out: MemSink::new(alloc, start.sink.to_vec(alloc)?),
+        link,
+    };
+    run_in(alloc, start.line, outside)
 }
 
-// Runs the program by the words of the line over this shelf, and a sink of which the calls of these numbers fail.
-fn run_over(
+// Runs the program by the words of the line.
+fn run_in(
     alloc: Global,
     line: &str,
-    shelf: &mut MemShelf,
-    sink: &[u64],
-    link: &mut ScriptLink,
+    mut outside: Outside<MemShelf, MemSink, ScriptLink>,
 ) -> Result<Ran, AllocError> {
     let words = words_of(alloc, line)?;
-    let mut out = MemSink::new(alloc, sink.to_vec(alloc)?);
-    let status = run(alloc, words.as_slice(), shelf, &mut out, link);
+    let status = run(alloc, words.as_slice(), &mut outside);
+    let Outside {
+        shelf: _,
+        out,
+        link,
+    } = outside;
     let put = String::from_utf8_lossy(alloc, out.bytes())?;
-    Ok(Ran { status, put })
+    Ok(Ran { status, put, link })
 }
 
 /// Runs the program with this link over a shelf with a data file and a file of changes, `c`.
@@ -95,22 +98,21 @@ pub fn run_beside(
     line: &str,
     data: &str,
     changes: &str,
-    link: &mut ScriptLink,
+    link: ScriptLink,
 ) -> Result<Ran, AllocError> {
     let mut files = Vec::new(alloc);
     files.push(file(alloc, "d", data)?)?;
     files.push(file(alloc, "c", changes)?)?;
-    let mut shelf = MemShelf::new(files, Vec::new(alloc));
-    run_over(alloc, line, &mut shelf, &[], link)
+    let outside = Outside {
+        shelf: MemShelf::new(files, Vec::new(alloc)),
+        out: MemSink::new(alloc, Vec::new(alloc)),
+        link,
+    };
+    run_in(alloc, line, outside)
 }
 
 /// Serves a data file by the words of the line over this link.
-pub fn serve(
-    alloc: Global,
-    line: &str,
-    data: &str,
-    link: &mut ScriptLink,
-) -> Result<Ran, AllocError> {
+pub fn serve(alloc: Global, line: &str, data: &str, link: ScriptLink) -> Result<Ran, AllocError> {
     let start = Start {
         line,
         data,

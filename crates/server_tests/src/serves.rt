@@ -91,10 +91,10 @@ static SERVED: [Served; 6] = [
 #[test]
 fn a_data_file_is_served_within_the_bounds_of_the_words(rt: HostRuntime) -> Result<(), Fail> {
     for row in &SERVED {
-        let mut link = link_of(rt.alloc(), row.sent)?;
-        let ran = serve(rt.alloc(), row.line, OPEN, &mut link)?;
+        let link = link_of(rt.alloc(), row.sent)?;
+        let ran = serve(rt.alloc(), row.line, OPEN, link)?;
         assert_eq!(rt; ran.end(), (row.put, row.status), "{}", row.line);
-        assert_eq!(rt; link.said_of(1), row.said, "{}", row.line);
+        assert_eq!(rt; ran.link.said_of(1), row.said, "{}", row.line);
     }
     Ok(())
 }
@@ -112,8 +112,8 @@ fn serve_failing(alloc: Global, call: u64) -> Result<Ran, AllocError> {
     let mut failing = Vec::new(alloc);
     failing.push(call)?;
     let events = one_opened(alloc)?;
-    let mut link = ScriptLink::new(alloc, events, failing, Vec::new(alloc), Vec::new(alloc));
-    serve(alloc, "serve d 127.0.0.1:389", TWO_ENTRIES, &mut link)
+    let link = ScriptLink::new(alloc, events, failing, Vec::new(alloc), Vec::new(alloc));
+    serve(alloc, "serve d 127.0.0.1:389", TWO_ENTRIES, link)
 }
 
 /// The call that fails, and what is put.
@@ -174,13 +174,12 @@ fn a_connection_for_which_too_much_waits_is_closed_and_others_go_on(
 ) -> Result<(), Fail> {
     let data = described(rt.alloc())?;
     for (line, status, octets, closed) in &FLOODED {
-        let mut link = flood(rt.alloc())?;
-        let ran = serve(rt.alloc(), line, data.as_str(), &mut link)?;
+        let ran = serve(rt.alloc(), line, data.as_str(), flood(rt.alloc())?)?;
         assert_eq!(rt; ran.end(), (LISTENING, *status), "{line}");
-        let found = (link.said_of(1).len(), link.hung_up(1));
+        let found = (ran.link.said_of(1).len(), ran.link.hung_up(1));
         assert_eq!(rt; found, (*octets, *closed), "{line}");
-        assert_eq!(rt; link.said_of(2), BOUND, "{line}");
-        assert!(rt; !link.hung_up(2), "the other one stays");
+        assert_eq!(rt; ran.link.said_of(2), BOUND, "{line}");
+        assert!(rt; !ran.link.hung_up(2), "the other one stays");
     }
     Ok(())
 }

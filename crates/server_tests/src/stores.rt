@@ -50,10 +50,14 @@ static STARTS: [Row; 9] = [
 #[test]
 fn what_a_file_of_changes_leaves_is_served(rt: HostRuntime) -> Result<(), Fail> {
     for (parts, put, status, said) in &STARTS {
-        let mut link = deleting(rt.alloc(), DELETE, &[])?;
-        let ran = serve_stored(rt.alloc(), LINE, parts, &mut link)?;
+        let link = deleting(rt.alloc(), DELETE, &[])?;
+        let ran = serve_stored(rt.alloc(), LINE, parts, link)?;
         assert_eq!(rt; ran.end(), (*put, *status), "which puts {put}");
-        assert_eq!(rt; link.said_of(1), *said, "what is said where it puts {put}");
+        assert_eq!(rt;
+            ran.link.said_of(1),
+            *said,
+            "what is said where it puts {put}"
+        );
     }
     Ok(())
 }
@@ -79,11 +83,11 @@ static FAILING: [(&[&str], u64, &str, Status, &[u8]); 10] = [
 #[test]
 fn a_store_that_fails_ends_the_serving(rt: HostRuntime) -> Result<(), Fail> {
     for (parts, call, put, status, said) in &FAILING {
-        let mut link = deleting(rt.alloc(), DELETE, &[*call])?;
-        let ran = serve_stored(rt.alloc(), LINE, parts, &mut link)?;
+        let link = deleting(rt.alloc(), DELETE, &[*call])?;
+        let ran = serve_stored(rt.alloc(), LINE, parts, link)?;
         assert_eq!(rt; ran.end(), (*put, *status), "the call {call}");
         assert_eq!(rt;
-            link.said_of(1),
+            ran.link.said_of(1),
             *said,
             "what is said before the call {call}"
         );
@@ -96,8 +100,8 @@ fn a_store_that_fails_ends_the_serving(rt: HostRuntime) -> Result<(), Fail> {
 fn a_file_of_changes_that_is_not_there_ends_the_serving(rt: HostRuntime) -> Result<(), Fail> {
     let line = "serve d 127.0.0.1:389 --changes e";
     for call in &[1u64, 2] {
-        let mut link = deleting(rt.alloc(), DELETE, &[*call])?;
-        let ran = serve_stored(rt.alloc(), line, &[], &mut link)?;
+        let link = deleting(rt.alloc(), DELETE, &[*call])?;
+        let ran = serve_stored(rt.alloc(), line, &[], link)?;
         assert_eq!(rt;
             ran.end(),
             ("data fault\n", Status::ShelfFault),
@@ -139,7 +143,7 @@ fn serve_stored(
     alloc: Global,
     line: &str,
     parts: &[&str],
-    link: &mut ScriptLink,
+    link: ScriptLink,
 ) -> Result<Ran, AllocError> {
     let mut changes = String::new(alloc);
     for part in parts {

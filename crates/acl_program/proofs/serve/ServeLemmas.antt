@@ -14,18 +14,19 @@ use Rattle.command_files.specs.declared.loading.Trouble.{Trouble}
 use Rattle.command_files.specs.declared.loading.Trouble.TheVariants as trouble
 use Rattle.command_files.specs.loading.Accepting.{HoldsIn, IsLoadedFrom}
 use Rattle.command_files.specs.loading.Changing.{left_of}
+use Rattle.command_files.specs.loading.Loading.{LoadsTree}
 use Rattle.command_files.specs.Outside.{Written}
 use Rattle.acl_program.specs.declared.serve.ListenAsked.{ListenAsked}
 use Rattle.acl_program.specs.declared.storing.Unready.TheVariants as unready
 use Rattle.acl_program.specs.declared.status.Status.{Status}
 use Rattle.acl_program.specs.declared.status.Status.TheVariants.{NoMemory}
 use Rattle.acl_program.specs.program.Causes.{Comes, Links, MayOpenStore}
-use Rattle.acl_program.specs.serve.Listening.{FollowsOpen, LeavesLink, Listens, ListensOn, OpensAtMost, Readies, ServesOpened, listening_asked}
+use Rattle.acl_program.specs.serve.Listening.{FollowsOpen, LeavesLink, Listens, ListensOn, MakesReady, OpensAtMost, Readies, ServesOpened, listening_asked}
 use Rattle.acl_program.specs.Outcomes.{Served, text_of, status_of, settled}
 use Rattle.acl_program.specs.Troubles.{outcome_of}
 use Rattle.acl_program.specs.program.Outside.{Linked, Outside, beside}
 use Rattle.acl_program.specs.program.Playing.{Ends, LinksFor, Performs}
-use Rattle.acl_program.specs.serve.Storing.{ServeAsked, StoreCall, IsPrepared, serve_asked}
+use Rattle.acl_program.specs.serve.Storing.{ServeAsked, StoreCall, IsPrepared, StoreFails, serve_asked}
 use Rattle.acl_program.specs.serve.Serving.{ServeEnd, NotStored, NotBegun, NotOpened, NotServed, LoopEnded, Opens, LinkListens, LinkServes, changes_read, ended_text, loop_status, opened_text}
 use Rattle.acl_program.proofs.program.PerformLemmas.{tree_refused}
 use Rattle.acl_program.proofs.troubles.EndsLemmas.{Ends-no_memory, Ends-put}
@@ -109,19 +110,22 @@ all_read asked NotOpened ready after P listens good = good
 all_read asked NotServed ready after P listens good = good
 all_read asked (LoopEnded how) ready after P listens good = good
 
--- what was ready was served
+-- what was ready was served: the shelf stayed, and what was printed began with what was there
 pub Performs-served :
-    (serving : ServingView) (before after : Outside) (ready : Linked) (status : Status) (loaded : Loaded)
-    → Readies serving before.shelf.files before.shelf.faults after.shelf.faults before.link (Ok loaded) ready
-    → ((content : List ℕ) → Listens (serve_asked serving content (left_of loaded)) (beside before.shelf before.out ready) status (beside before.shelf after.out after.link))
-    → Performs (Serve serving) before status after
+    (serving : ServingView) (before ready after : Outside) (status : Status) (loaded : Loaded)
+    → MakesReady serving before (Ok loaded) ready → ready.out ≡ before.out
+    → after.shelf ≡ ready.shelf → ((content : List ℕ) → Listens (serve_asked serving content (left_of loaded)) ready status after) → Performs (Serve serving) before status after
 unfolding Performs Listens Readies Comes Links
-Performs-served serving before after ready status loaded readies listens =
+Performs-served serving before ready after status loaded readies unprinted kept listens =
     let own = readies.0 in
     let served : ServeAsked = serve_asked serving own.content (left_of loaded) in
     let on = listens own.content in
-    let good = all_read served on.0 ready after.link (λ changes. IsLoadedFrom (HoldsIn before.shelf.files) serving.data_file changes own.content (left_of loaded)) on.2 own.good in
-    (Served served on.0, (λ words is. (record { asked = is; good = good }, readies.1)), on.1, λ words is. serves_ready served on.0 before.link ready after.link own.ready on.2)
+    let good = all_read served on.0 ready.link after.link (λ changes. IsLoadedFrom (HoldsIn before.shelf.files) serving.data_file changes own.content (left_of loaded)) on.2 own.good in (
+      Served served on.0,
+      (λ words is. (record { asked = is; good = good }, ap (λ shelf. shelf.faults) kept ∙ readies.1)),
+      subst (λ out. Ends (Served served on.0) out status after.out) unprinted on.1,
+      λ words is. serves_ready served on.0 before.link ready.link after.link own.ready on.2,
+    )
 
 -- the link as words that ask for serving may leave it
 may_open : (serving : ServingView) (words : List (List ℕ)) (before after : Linked) → IsCommand words (Serve serving) → OpensAtMost serving.changes before after → MayOpenStore words before after
@@ -138,24 +142,30 @@ links_unready serving (trouble.BadChanges line cause) before after leaves = λ w
 links_unready serving trouble.NoMemory before after leaves = λ words is. may_open serving words before after is leaves
 
 pub Performs-unready :
-    (serving : ServingView) (before after : Outside) (status : Status) (why : Trouble)
-    → Readies serving before.shelf.files before.shelf.faults after.shelf.faults before.link (Err (unready.Files why)) after.link
-    → Ends (outcome_of why) before.out status after.out → Performs (Serve serving) before status after
+    (serving : ServingView) (before ready after : Outside) (status : Status) (why : Trouble)
+    → MakesReady serving before (Err (unready.Files why)) ready → ready.out ≡ before.out
+    → Ends (outcome_of why) ready.out status after.out → after.shelf ≡ ready.shelf → after.link ≡ ready.link → Performs (Serve serving) before status after
 unfolding Performs Readies
-Performs-unready serving before after status why readies ends = (
+Performs-unready serving before ready after status why readies unprinted ends kept same = (
   outcome_of why,
-  tree_refused (Serve serving) serving.data_file before.shelf.files before.shelf.faults after.shelf.faults why refl refl readies.0,
-  ends,
-  links_unready serving why before.link after.link readies.1,
+  tree_refused (Serve serving) serving.data_file before.shelf.files before.shelf.faults after.shelf.faults why refl refl
+      (subst (λ shelf. LoadsTree before.shelf.files serving.data_file serving.changes before.shelf.faults shelf.faults (Err why)) (sym kept) readies.0),
+  subst (λ out. Ends (outcome_of why) out status after.out) unprinted ends,
+  links_unready serving why before.link after.link (subst (LeavesLink serving.changes why before.link) (sym same) readies.1),
 )
 
 -- a call of the store failed
 pub Performs-unstored :
-    (serving : ServingView) (before after : Outside) (status : Status) (fault : NextFault)
-    → Readies serving before.shelf.files before.shelf.faults after.shelf.faults before.link (Err (unready.Store fault)) after.link
-    → ((asked : ServeAsked) (call : StoreCall) → Ends (Served asked (NotStored call fault)) before.out status after.out) → Performs (Serve serving) before status after
+    (serving : ServingView) (before ready after : Outside) (status : Status) (fault : NextFault)
+    → MakesReady serving before (Err (unready.Store fault)) ready → ready.out ≡ before.out
+    → ((asked : ServeAsked) (call : StoreCall) → Ends (Served asked (NotStored call fault)) ready.out status after.out) → after.shelf ≡ ready.shelf → after.link ≡ ready.link
+    → Performs (Serve serving) before status after
 unfolding Performs Readies Comes Links LinkServes
-Performs-unstored serving before after status fault readies ends =
+Performs-unstored serving before ready after status fault readies unprinted ends kept same =
     let own = readies.0 in
-    let asked : ServeAsked = serve_asked serving own.content own.left in
-    (Served asked (NotStored own.call fault), (λ words is. (record { asked = is; good = own.good }, readies.1)), ends asked own.call, λ words is. own.fails)
+    let asked : ServeAsked = serve_asked serving own.content own.left in (
+      Served asked (NotStored own.call fault),
+      (λ words is. (record { asked = is; good = own.good }, ap (λ shelf. shelf.faults) kept ∙ readies.1)),
+      subst (λ out. Ends (Served asked (NotStored own.call fault)) out status after.out) unprinted (ends asked own.call),
+      λ words is. subst (StoreFails asked own.call fault before.link) (sym same) own.fails,
+    )

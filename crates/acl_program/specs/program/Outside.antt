@@ -4,9 +4,8 @@
 use Rattle.std.specs.Prelude.{◌≡◌, ℕ, List, Option}
 use Rattle.command_files.specs.plain_values.Counts.{Rose}
 use Rattle.command_files.specs.wire_io.declared.journal.Item.{Item}
-use Rattle.command_files.specs.wire_io.Files.{Files}
 use Rattle.command_files.specs.wire_io.link.Plan.{Plan}
-use Rattle.command_files.specs.Outside.{Shelved, Written}
+use Rattle.command_files.specs.Outside.{Shelved, Written, shelved}
 
 -- what a link did, and what it still has to give
 pub record Linked : Type 0 where
@@ -44,7 +43,6 @@ StoreFailed before after = Rose before.store_faults after.store_faults × (after
 abbrev pub beside : Shelved → Written → Linked → Outside
 beside shelf out link = record { shelf = shelf; out = out; link = link }
 
--- a shelf and a sink, by what they tell and their counts, beside a link
-abbrev pub outside : Option Files → ℕ → Option (List ℕ) → ℕ → Linked → Outside
-outside files shelf_faults put sink_faults link =
-    record { shelf = record { files = files; faults = shelf_faults }; out = record { put = put; faults = sink_faults }; link = link }
+-- the same while its shelf had counted so many faults
+abbrev pub at_count : ℕ → Outside → Outside
+at_count count outside = beside (shelved outside.shelf.files count) outside.out outside.link

@@ -91,3 +91,7 @@ Readies serving files count last before (Ok loaded) after = IsReadyToServe servi
 Readies serving files count last before (Err (unready.Files why)) after =
     LoadsTree files serving.data_file serving.changes count last (Err why) × LeavesLink serving.changes why before after
 Readies serving files count last before (Err (unready.Store fault)) after = FailsToStore serving files fault before after × (last ≡ count)
+
+-- the same of what the program stands in
+abbrev pub MakesReady : ServingView → Outside → Result Loaded Unready → Outside → Type 0
+MakesReady serving before result after = Readies serving before.shelf.files before.shelf.faults after.shelf.faults before.link result after.link

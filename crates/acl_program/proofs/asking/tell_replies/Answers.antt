@@ -1,14 +1,14 @@
-use Rattle.std.proofs.Common.{refl}
+use Rattle.std.proofs.Common.{refl, sym}
 use Rattle.command_words.specs.command.Command.{Ask}
 use Rattle.command_files.specs.Outside.{written}
-use Rattle.acl_program.specs.program.Outside.{outside}
+use Rattle.acl_program.specs.program.Outside.{linked}
 use Rattle.acl_program.proofs.program.PerformLemmas.{Performs-after, Performs-refused}
 use Rattle.acl_program.proofs.asking.tell_replies.Goals as goal
 
 -- the data file was loaded
 pub returns-in-Ok-clause-performs : goal.returns-in-Ok-clause-performs
-returns-in-Ok-clause-performs g c = λ link. Performs-after _ _ _ _ _ _ (written _ _) link _ (outside _ _ _ _ link) _ c.in-Ok.ensures.kept c.in-Ok.ensures.exact (c.ask_over.ensures.performs link _ _)
+returns-in-Ok-clause-performs g c = rw (sym c.outside.view_is) (Performs-after _ _ _ _ _ _ (written _ _) (linked _ _ _ _ _ _) _ _ _ c.in-Ok.ensures.kept c.in-Ok.ensures.exact (c.ask_over.ensures.performs _ _))
 
 -- it wasn't
 pub returns-in-Err-clause-performs : goal.returns-in-Err-clause-performs
-returns-in-Err-clause-performs g c = λ link. Performs-refused (Ask c.args.asked.now.data.now c.args.asked.now.requests.now c.args.asked.now.script) c.args.asked.now.data.now (outside _ _ _ _ link) (outside _ _ _ _ link) _ _ refl refl c.in-Err.ensures.exact c.print_trouble.ensures.ends refl
+returns-in-Err-clause-performs g c = rw (sym c.outside.view_is) (Performs-refused (Ask c.args.asked.now.data.now c.args.asked.now.requests.now c.args.asked.now.script) c.args.asked.now.data.now _ _ _ _ refl refl c.in-Err.ensures.exact c.print_trouble.ensures.ends refl)

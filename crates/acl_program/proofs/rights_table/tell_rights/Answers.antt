@@ -1,5 +1,4 @@
-use Rattle.std.proofs.Common.{refl}
-use Rattle.acl_program.specs.program.Outside.{outside}
+use Rattle.std.proofs.Common.{refl, sym}
 use Rattle.acl_program.proofs.rights_table.RightsLemmas.{Performs-no_party, said_who, said_target}
 use Rattle.acl_program.proofs.program.PerformLemmas.{Performs-no_memory}
 use Rattle.acl_program.proofs.rights_table.tell_rights.Goals as goal
@@ -7,13 +6,13 @@ use Rattle.acl_program.proofs.rights_table.tell_rights.Goals as goal
 -- the words say who and on what
 pub returns-in-Ok-Some-clause-performs : goal.returns-in-Ok-Some-clause-performs
 returns-in-Ok-Some-clause-performs g c =
-    λ link. c.rights_over.ensures.performs link _ _
+    c.rights_over.ensures.performs _ _
     (said_who _ _ _ (rw c.in-Ok-Some.field-0-is at c.in-Ok-Some.ensures.exact)) (said_target _ _ _ (rw c.in-Ok-Some.field-0-is at c.in-Ok-Some.ensures.exact))
 
 -- they don't
 pub returns-in-Ok-None-clause-performs : goal.returns-in-Ok-None-clause-performs
-returns-in-Ok-None-clause-performs g c = λ link. Performs-no_party _ _ _ (outside _ _ _ _ link) (outside _ _ _ _ link) _ (rw c.in-Ok-None.field-0-is at c.in-Ok-None.ensures.exact) c.print_usage.ensures.ends refl refl
+returns-in-Ok-None-clause-performs g c = rw (sym c.outside.view_is) (Performs-no_party _ _ _ _ _ _ (rw c.in-Ok-None.field-0-is at c.in-Ok-None.ensures.exact) c.print_usage.ensures.ends refl refl)
 
 -- there was no memory for them
 pub returns-in-Err-clause-performs : goal.returns-in-Err-clause-performs
-returns-in-Err-clause-performs g c = λ link. Performs-no_memory _ (outside _ _ _ _ link)
+returns-in-Err-clause-performs g c = Performs-no_memory _ _

@@ -1,5 +1,4 @@
-use Rattle.std.proofs.Common.{refl}
-use Rattle.acl_program.specs.program.Outside.{outside}
+use Rattle.std.proofs.Common.{refl, sym}
 use Rattle.acl_program.proofs.why.WhyLemmas.{LoadsContent-short, Performs-unexplained, Performs-why}
 use Rattle.acl_program.proofs.why.tell_why.Goals as goal
 
@@ -9,9 +8,9 @@ print_why-requires g c = record { short = LoadsContent-short _ _ _ _ _ _ c.as_sl
 
 -- it was read
 pub returns-in-Ok-clause-performs : goal.returns-in-Ok-clause-performs
-returns-in-Ok-clause-performs g c = λ link. Performs-why _ _ (outside _ _ _ _ link) (outside _ _ _ _ link) _ _ c.as_slice.ensures.value c.in-Ok.ensures.exact c.print_why.ensures.ends refl
+returns-in-Ok-clause-performs g c = rw (sym c.outside.view_is) (Performs-why _ _ _ _ _ _ c.as_slice.ensures.value c.in-Ok.ensures.exact c.print_why.ensures.ends refl)
 
 -- it wasn't
 pub returns-in-Err-clause-performs : goal.returns-in-Err-clause-performs
-returns-in-Err-clause-performs g c = λ link.
-    Performs-unexplained c.args.name.now (outside _ _ _ _ link) (outside _ _ _ _ link) _ _ c.in-Err.ensures.exact c.print_trouble.ensures.ends refl
+returns-in-Err-clause-performs g c = rw (sym c.outside.view_is) (
+    Performs-unexplained c.args.name.now _ _ _ _ c.in-Err.ensures.exact c.print_trouble.ensures.ends refl)
