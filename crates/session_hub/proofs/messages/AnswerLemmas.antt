@@ -63,10 +63,12 @@ pub short_notice : {E : Type 0} (terms : Terms) (r : Result Bool E) (entries : D
 short_notice terms (Ok closes) entries who content is = subst (λ (read : Option Message). IsShortAnswer entries who (limited_read terms.limit read)) (sym is) tt
 short_notice terms (Err fault) entries who content is = tt
 
--- the answer to the octets of a message is the one to its content
-pub answer_content : (terms : Terms) (entries : DirectoryEntries) (who : Requester) (bytes content : List ℕ) → message_of bytes ≡ message_in content → answer_to terms entries who content ≡ (rules terms).answer entries who bytes
+-- what answers the content of a message answers its octets
+pub gives_content : (terms : Terms) (entries : DirectoryEntries) (who : Requester) (bytes content : List ℕ) {old new : Put} {left : DirectoryEntries} {after : Requester} {closes : Bool} → message_of bytes ≡ message_in content →
+    Gives (answer_to terms entries who content) old new left after closes → Gives ((rules terms).answer entries who bytes) old new left after closes
 unfolding rules
-answer_content terms entries who bytes content says = ap (λ m. answer_read terms.keeps entries who (limited_read terms.limit m)) (sym says)
+gives_content terms entries who bytes content {old} {new} {left} {after} {closes} says gives =
+    subst (λ m. Gives (answer_read terms.keeps entries who (limited_read terms.limit m)) old new left after closes) (sym says) gives
 
 -- and its replies are as short
 pub short_content : (terms : Terms) (entries : DirectoryEntries) (who : Requester) (bytes content : List ℕ) → message_of bytes ≡ message_in content → IsShortAnswer entries who (limited_read terms.limit (message_in content)) →

@@ -67,6 +67,6 @@ take-joined (suc room) more [] ys is = ap (λ n. take n ys) (let some : more ≡
 take-joined (suc room) more (x ∷ xs) ys is = ap (λ zs. x ∷ zs) (take-joined room more xs ys (omega arith))
 
 -- what a whole message says is what its content says
-pub content_says : (stream rest message content : List ℕ) (head count : ℕ) → IsHeaded rest head count → rest ≡ stream → message ≡ take count rest → content ≡ drop head message → message_of (take count stream) ≡ message_in content
-content_says stream rest message content head count headed same front behind =
+pub content_says : {stream rest message content : List ℕ} {head count : ℕ} → IsHeaded rest head count → rest ≡ stream → message ≡ take count rest → content ≡ drop head message → message_of (take count stream) ≡ message_in content
+content_says {stream} {rest} {message} {content} {head} {count} headed same front behind =
     ap (λ xs. message_of (take count xs)) (sym same) ∙ headed.message ∙ ap message_in (sym (behind ∙ ap (drop head) front))
