@@ -19,7 +19,7 @@ use acdf_filters::aci_item::Permission;
 use acdf_filters::{Item, Question, Requester};
 use dir_tree::dn_names::Dn;
 use dir_tree::{EntryNo, NoMemory};
-use directory::{Asking, Dir, Target};
+use directory::{Asking, Dir, NumberedEntry, Target, find_entry};
 use explanation::AskedDecision;
 use std::alloc::Global;
 
@@ -45,7 +45,7 @@ fn question_text(
 }
 
 // The same on the item of the entry that is asked about.
-fn entry_text<D: Dir>(
+fn item_text<D: Dir>(
     alloc: Global,
     target: &Target<'_, '_, D>,
     item: Item<'_>,
@@ -58,6 +58,28 @@ fn entry_text<D: Dir>(
     let question = target.question(item, permission);
     let numbers = target.asking.dir.in_force(target.number);
     question_text(alloc, &question, target.number, numbers)
+}
+
+// The same, for who the requester is.
+fn entry_text<D: Dir>(
+    alloc: Global,
+    dir: &D,
+    who: &Requester,
+    found: NumberedEntry<'_>,
+    item: Item<'_>,
+    permission: Permission,
+) -> Result<Vec<u8>, NoMemory>
+    requires entry { entry_of found.number.0 (D.rows dir.now) ≡ Some found.entry.now }
+    ensures ok { IfOk result (λ text. text.items ≡ certificate_text (entries_of (D.rows dir.now))
+        (asked_on who.now found.entry.entry.now (protected_of item.entry) permission) found.entry.entry.now) }
+{
+    let asking = Asking::new(alloc, dir, who)?;
+    let target = Target {
+        asking: &asking,
+        number: found.number,
+        entry: found.entry,
+    };
+    item_text(alloc, &target, item, permission)
 }
 
 /// Appends the certificate of the access control decision on the item of the entry of the number (X.501 18.8): what is
@@ -87,12 +109,13 @@ pub fn prove<D: Dir>(
     ensures absent { entry_of number.0 (D.rows dir.now) ≡ None → out.new.items ≡ out.old.items }
     ensures err { OnErr result (out.new.items ≡ out.old.items) }
 {
-    dir.tree().entries_form_a_tree();
-    let asking = Asking::new(alloc, dir, who)?;
-    let Some(target) = asking.at(number) else {
+    let tree = dir.tree();
+    tree.entries_form_a_tree();
+    let Some(entry) = tree.at(number) else {
         return Ok(());
     };
-    let text = entry_text(alloc, &target, item, permission)?;
+    let found = NumberedEntry { number, entry };
+    let text = entry_text(alloc, dir, who, found, item, permission)?;
     out.extend_from_slice(&text)
 }
 
@@ -108,9 +131,8 @@ fn target_text<D: Dir>(
     ensures ok { IfOk result (λ text. text.items ≡ proved_text (entries_of (D.rows dir.now)) who.now
         target.now (protected_of item.entry) permission) }
 {
-    let asking = Asking::new(alloc, dir, who)?;
-    match asking.find(target) {
-        Some(found) => entry_text(alloc, &found, item, permission),
+    match find_entry(dir.tree(), target) {
+        Some(found) => entry_text(alloc, dir, who, found, item, permission),
         None => Vec::from_slice(alloc, b"absent\n"),
     }
 }
