@@ -16,7 +16,7 @@ use Rattle.session_model.specs.ldap_msg.declared.operations.Ending.{Ending}
 use Rattle.session_model.specs.ldap_msg.declared.operations.Ending.TheVariants as ending
 use Rattle.session_model.specs.ldap_msg.declared.operations.ResultCode.{ResultCode}
 use Rattle.session_model.specs.ldap_msg.declared.operations.ResultCode.TheVariants as code
-use Rattle.session_model.specs.ldap_msg.reading.Messages.{message_of}
+use Rattle.session_model.specs.ldap_msg.reading.Messages.{message_in, message_of}
 use Rattle.session_model.specs.ldap_msg.Replies.{notice_octets}
 use Rattle.op_read.specs.read_model.Views.{View, view_of, result_of}
 use Rattle.op_read.specs.read_model.SearchReplies.{search_replies, replies_octets}
@@ -182,6 +182,10 @@ answer_read keeps entries who (Some message) =
       who = came.who;
       closes = is_unbind message.request;
     }
+
+-- the answer to the message that a content says, with the server's limit on searches, where 0 is none
+abbrev pub answer_to : Terms → DirectoryEntries → Requester → List ℕ → Answered DirectoryEntries Requester
+answer_to terms entries who content = answer_read terms.keeps entries who (limited_read terms.limit (message_in content))
 
 -- the rules of this server, over the entries of its directory: what was read is answered with the server's limit on searches,
 -- where 0 is none, and the record of each change that is made is to be stored where changes are kept

@@ -2,6 +2,7 @@
 -- opening: the notice of disconnection (RFC 4511 4.4.1), and the answer to an anonymous bind (RFC 4513 5.1.1).
 use Rattle.std.specs.Prelude.{◌≡◌, ◌<◌, ◌≤◌, ◌⊎◌, ℕ, false, List, [], ◌++◌, take, Option, Some, None}
 use Rattle.session_model.specs.ldap_msg.declared.kinds.Frame.TheVariants.{Whole, Bad}
+use Rattle.session_model.specs.ldap_msg.declared.kinds.Message.{Message}
 use Rattle.session_model.specs.ldap_msg.reading.Messages.{message_of}
 use Rattle.session_model.specs.ldap_msg.Streams.{frame_at}
 use Rattle.session_model.specs.Kept.{Kept, kept_of, cut_of}
@@ -15,16 +16,16 @@ use Rattle.session_hub.specs.declared.event.Event.TheVariants as event
 abbrev pub kept_room : ℕ
 kept_room = 64
 
--- the octets say an anonymous bind of version 3: no name, an empty password and no controls
-pub record IsAnonymousBind (octets : List ℕ) : Type 0 where
+-- what was read is an anonymous bind of version 3: no name, an empty password and no controls
+pub record IsAnonymousBind (read : Option Message) : Type 0 where
   pub id : ℕ
-  pub says : message_of octets ≡ Some (simple_message id [] [])
+  pub says : read ≡ Some (simple_message id [] [])
 
 -- unread octets and a piece together begin with such a bind; where any octets were unread, it has no more than there is room for
 pub record BeginsWithBind (unread piece : List ℕ) : Type 0 where
   pub count : ℕ
   pub whole : frame_at (unread ++ piece) ≡ Whole count
-  pub bind : IsAnonymousBind (take count (unread ++ piece))
+  pub bind : IsAnonymousBind (message_of (take count (unread ++ piece)))
   pub joins : (unread ≡ []) ⊎ (count ≤ kept_room)
 
 -- the first answer to unread octets and a piece is one that has room: together they begin with the front of no message, or

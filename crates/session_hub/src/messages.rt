@@ -1,8 +1,8 @@
 //! The answer to one message.
 
-ghost use Rattle.std.specs.Prelude.{◌≡◌, ◌≤◌, ◌+◌, ◌++◌, ℕ, Bool, List, [], ◌∷◌, length, take, vec_len, vec_capacity, IsOk, IfOk, OnOk, OnErr, Some, None};
+ghost use Rattle.std.specs.Prelude.{◌≡◌, ◌≤◌, ◌+◌, ◌++◌, ℕ, Bool, List, [], ◌∷◌, take, vec_len, vec_capacity, IsOk, IfOk, OnOk, OnErr, Some, None};
 ghost use Rattle.dir_tree.specs.tree.Numbered.{entries_of};
-ghost use Rattle.session_model.specs.ldap_msg.Streams.{frame_at};
+ghost use Rattle.session_model.specs.ldap_msg.reading.Messages.{message_in};
 ghost use Rattle.session_model.specs.ldap_msg.declared.operations.ResultCode.TheVariants as code;
 ghost use Rattle.op_read.specs.read_model.Views.{view_of, result_of as result_with};
 ghost use Rattle.op_read.specs.Short.{IsShortPage, Puts};
@@ -16,12 +16,12 @@ ghost use Rattle.change_records.specs.Written.{record_text};
 ghost use Rattle.session_hub.specs.Parties.{DirectoryEntries, Requester};
 ghost use Rattle.op_read.specs.page_core.Pages.{ended as unread};
 ghost use Rattle.session_hub.specs.Controls.{subentries_asked, page_asked};
-ghost use Rattle.session_hub.specs.Answering.{rules, ending_for, response_to as response_of, replies_in, ended_with, asking, searched, answer_octets, changing, kept_changes, operated, answered, is_unbind, answer_read};
+ghost use Rattle.session_hub.specs.Answering.{ending_for, response_to as response_of, replies_in, ended_with, asking, searched, answer_octets, changing, kept_changes, operated, answered, is_unbind, answer_read, answer_to};
 ghost use Rattle.session_hub.specs.Outgoing.{put_in};
 ghost use Rattle.session_hub.specs.Answers.{Gives, Sends};
-ghost use Rattle.session_hub.specs.ShortAnswers.{IsShortAnswer, IsAnsweredShort};
+ghost use Rattle.session_hub.specs.ShortAnswers.{IsShortAnswer};
 ghost use Rattle.session_hub.specs.FirstAnswers.{IsAnonymousBind};
-ghost use Rattle.session_hub.specs.Limiting.{limited_message, lesser_limit};
+ghost use Rattle.session_hub.specs.Limiting.{limited_message, limited_read, lesser_limit};
 
 use crate::allowance::Allowance;
 use crate::binds::{answer_bind, answer_simple_bind};
@@ -30,7 +30,7 @@ use crate::extended::answer_extended;
 use crate::outgoing::Outgoing;
 use crate::requester::anonymous;
 use crate::results::result_of;
-use crate::simple::simple_bind;
+use crate::simple::bind_in;
 use change_laws::op_add_delete::{add, delete};
 use change_laws::op_modify::{modify, rename};
 use change_records::put_record;
@@ -38,8 +38,8 @@ use op_read::acdf_filters::Requester;
 use op_read::directory::Dir;
 use op_read::{compare, search, search_page};
 use session_model::ldap_msg::{
-    CompareRequest, Ending, Frame, LdapResult, Message, ReadFault, Reply, Request, ResultCode,
-    SearchRequest, Update, put_notice, put_reply, read_request,
+    CompareRequest, Ending, LdapResult, Message, ReadFault, Reply, Request, ResultCode,
+    SearchRequest, Update, put_notice, put_reply, read_content,
 };
 use std::alloc::{AllocError, Global};
 
@@ -490,26 +490,26 @@ fn limit_message(message: &mut Message, limit: u32)
     }
 }
 
-/// Answers the octets of any message.
+/// Answers the content of any message.
 #[inline(never)] // what it needs is not to be cleared for each bind
 fn answer_any<D: Dir>(
     alloc: Global,
     dir: &mut D,
     who: &mut Requester,
-    bytes: &[u8],
+    content: &[u8],
     allowed: Allowance,
     out: &mut Outgoing,
 ) -> Result<bool, AllocError>
-    ensures ok { IfOk result (λ closes. Gives ((rules allowed.terms).answer (entries_of (D.rows dir.old)) who.old bytes.now)
+    ensures ok { IfOk result (λ closes. Gives (answer_to allowed.terms (entries_of (D.rows dir.old)) who.old content.now)
         (put_in out.old) (put_in out.new) (entries_of (D.rows dir.new)) who.new closes) }
-    ensures short { OnOk result (IsAnsweredShort allowed.terms
-        (record { tree = entries_of (D.rows dir.old); who = who.old; message = bytes.now })) }
+    ensures short { OnOk result (IsShortAnswer (entries_of (D.rows dir.old)) who.old
+        (limited_read allowed.terms.limit (message_in content.now))) }
     ensures err { OnErr result (out.new.replies.items ≡ out.old.replies.items) }
     ensures unrecorded { OnErr result (out.new.changes.items ≡ out.old.changes.items) }
     ensures asker { OnErr result (who.new ≡ who.old) }
     ensures entries { OnErr result (entries_of (D.rows dir.new) ≡ entries_of (D.rows dir.old)) }
 {
-    match read_request(alloc, bytes) {
+    match read_content(alloc, content) {
         Ok(mut message) => {
             limit_message(&mut message, allowed.terms.limit);
             answer_message(alloc, dir, who, &message, allowed, out)
@@ -519,8 +519,8 @@ fn answer_any<D: Dir>(
     }
 }
 
-/// Answers the octets of one message for the requester, appends the replies (RFC 4511 4.1.1), and
-/// says whether the connection closes. Octets that are no message get the notice of disconnection
+/// Answers the content of one message for the requester, appends the replies (RFC 4511 4.1.1), and
+/// says whether the connection closes. A content that says no message gets the notice of disconnection
 /// (4.4.1). `AllocError` comes for want of memory, or where more than the room waits for the
 /// connection while a search is answered, and then all is as it was. An anonymous bind is answered
 /// without memory where there is room for 17 octets.
@@ -528,24 +528,23 @@ pub fn answer<D: Dir>(
     alloc: Global,
     dir: &mut D,
     who: &mut Requester,
-    bytes: &[u8],
+    content: &[u8],
     allowed: Allowance,
     out: &mut Outgoing,
 ) -> Result<bool, AllocError>
-    requires { frame_at bytes.now ≡ Frame.Whole (length bytes.now) }
-    ensures ok { IfOk result (λ closes. Gives ((rules allowed.terms).answer (entries_of (D.rows dir.old)) who.old bytes.now)
+    ensures ok { IfOk result (λ closes. Gives (answer_to allowed.terms (entries_of (D.rows dir.old)) who.old content.now)
         (put_in out.old) (put_in out.new) (entries_of (D.rows dir.new)) who.new closes) }
     // So each reply is read again.
-    ensures short { OnOk result (IsAnsweredShort allowed.terms
-        (record { tree = entries_of (D.rows dir.old); who = who.old; message = bytes.now })) }
+    ensures short { OnOk result (IsShortAnswer (entries_of (D.rows dir.old)) who.old
+        (limited_read allowed.terms.limit (message_in content.now))) }
     ensures err { OnErr result (out.new.replies.items ≡ out.old.replies.items) }
     ensures unrecorded { OnErr result (out.new.changes.items ≡ out.old.changes.items) }
     ensures asker { OnErr result (who.new ≡ who.old) }
     ensures entries { OnErr result (entries_of (D.rows dir.new) ≡ entries_of (D.rows dir.old)) }
-    ensures succeeds { IsAnonymousBind bytes.now → vec_len out.old.replies + 17 ≤ vec_capacity out.old.replies → IsOk result }
+    ensures succeeds { IsAnonymousBind (message_in content.now) → vec_len out.old.replies + 17 ≤ vec_capacity out.old.replies → IsOk result }
 {
-    match simple_bind(bytes) {
+    match bind_in(content) {
         Some(request) => answer_simple_bind(alloc, dir, who, &request, &mut out.replies),
-        None => answer_any(alloc, dir, who, bytes, allowed, out),
+        None => answer_any(alloc, dir, who, content, allowed, out),
     }
 }

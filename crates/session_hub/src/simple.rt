@@ -4,7 +4,7 @@ ghost use Rattle.std.specs.Prelude.{◌≡◌, ◌≤◌, IfSome, Some};
 ghost use Rattle.session_model.specs.ber_layout.element.Pieces.{number_in, tagged_at};
 ghost use Rattle.session_model.specs.ber_layout.element.Reading.{Finds, piece_view};
 ghost use Rattle.session_model.specs.ldap_msg.Binds.{bind_of};
-ghost use Rattle.session_model.specs.ldap_msg.reading.Messages.{message_in, message_of};
+ghost use Rattle.session_model.specs.ldap_msg.reading.Messages.{message_in};
 ghost use Rattle.session_hub.specs.SimpleBinds.{credentials_of, simple_in, message_for, says_no_controls};
 
 use session_model::ber_elements::read_int;
@@ -88,8 +88,10 @@ fn has_no_controls(octets: &[u8]) -> bool
     }
 }
 
-/// The simple bind that the content of a message is, without controls. None comes for any other content.
-fn bind_in(content: &[u8]) -> Option<SimpleBind<'_>>
+/// The simple bind of version 3 that the content of a message says, where it is one and has no controls. None comes for any
+/// other content. This takes no memory.
+pub fn bind_in(content: &[u8]) -> Option<SimpleBind<'_>>
+    ensures message { IfSome result (λ bind. message_in content.now ≡ Some (message_for bind)) }
     ensures exact { Finds (λ bind. (bind.id, (bind.name.now, bind.password.now))) result (simple_in (message_in content.now)) }
     ensures id { IfSome result (λ bind. bind.id ≤ 2147483647) }
 {
@@ -104,18 +106,4 @@ fn bind_in(content: &[u8]) -> Option<SimpleBind<'_>>
     }
     let Credentials { name, password } = credentials_in(operation.content)?;
     Some(SimpleBind { id, name, password })
-}
-
-/// The simple bind of version 3 that the octets say, where they are one and it has no controls. None comes for any
-/// other octets. This takes no memory.
-pub fn simple_bind(bytes: &[u8]) -> Option<SimpleBind<'_>>
-    ensures message { IfSome result (λ bind. message_of bytes.now ≡ Some (message_for bind)) }
-    ensures exact { Finds (λ bind. (bind.id, (bind.name.now, bind.password.now))) result (simple_in (message_of bytes.now)) }
-    ensures id { IfSome result (λ bind. bind.id ≤ 2147483647) }
-{
-    let outer = element_with(0x30, bytes)?;
-    if !outer.rest.is_empty() {
-        return None;
-    }
-    bind_in(outer.content)
 }

@@ -12,7 +12,7 @@ use crate::outgoing::Outgoing;
 use crate::spoken::{SpeechEnd, Spoken};
 use op_read::acdf_filters::Requester;
 use op_read::directory::Dir;
-use session_model::ldap_msg::{Frame, frame, put_notice};
+use session_model::ldap_msg::{Framed, framed, put_notice};
 use std::alloc::Global;
 
 /// Whether more is queued than there is room for, behind the first message.
@@ -45,15 +45,15 @@ pub fn speak<D: Dir>(
     let mut answered = 0;
     'messages: loop {
         let rest = stream.split_at(read).1;
-        match frame(rest) {
-            Frame::More => {
+        match framed(rest) {
+            Framed::More => {
                 return Spoken {
                     read,
                     answered,
                     end: SpeechEnd::StaysOpen,
                 };
             }
-            Frame::Bad => {
+            Framed::Bad => {
                 let end = match put_notice(&mut out.replies) {
                     Ok(()) => SpeechEnd::Closes,
                     Err(_) => SpeechEnd::IsCut,
@@ -64,7 +64,7 @@ pub fn speak<D: Dir>(
                     end,
                 };
             }
-            Frame::Whole(length) => {
+            Framed::Whole { head, length } => {
                 if is_full(answered, &out.replies, allowed.room) {
                     return Spoken {
                         read,
@@ -72,7 +72,9 @@ pub fn speak<D: Dir>(
                         end: SpeechEnd::IsFull,
                     };
                 }
-                match answer(alloc, dir, who, rest.split_at(length).0, allowed, out) {
+                let message = rest.split_at(length).0;
+                let content = message.split_at(head).1;
+                match answer(alloc, dir, who, content, allowed, out) {
                     Err(_) => return Spoken {
                         read,
                         answered,

@@ -15,22 +15,21 @@ use Rattle.op_read.specs.read_model.Views.{View}
 use Rattle.session_model.specs.ldap_msg.declared.kinds.SearchRequest.{SearchRequest}
 use Rattle.session_model.specs.ldap_msg.declared.kinds.Reply.{Reply}
 use Rattle.session_hub.specs.Controls.{is_refused}
-use Rattle.session_model.specs.ldap_msg.reading.Messages.{message_of}
+use Rattle.session_model.specs.ldap_msg.reading.Messages.{message_in, message_of}
 use Rattle.session_hub.specs.Parties.{DirectoryEntries, Requester}
 use Rattle.session_hub.specs.Terms.{Terms}
 use Rattle.session_hub.specs.Outgoing.{Put}
 use Rattle.session_hub.specs.Answers.{Gives}
 use Rattle.session_hub.specs.Limiting.{limited_read}
 use Rattle.session_hub.specs.ShortAnswers.{IsShortAnswer, IsAnsweredShort}
-use Rattle.session_hub.specs.Answering.{searched, sent_octets, answer_octets, answered, is_unbind, answer_read, rules}
+use Rattle.session_hub.specs.Answering.{searched, sent_octets, answer_octets, answered, is_unbind, answer_read, answer_to, rules}
 
--- a message, or octets that are none, answered by the rules
-pub answered_as : {E : Type 0} (terms : Terms) (r : Result Bool E) (o now : Option Message) (entries left : DirectoryEntries) (who after : Requester) (bytes : List ℕ) (old new : Put) → message_of bytes ≡ o → now ≡ limited_read terms.limit o →
+-- a message, or a content that says none, answered
+pub answered_as : {E : Type 0} (terms : Terms) (r : Result Bool E) (o now : Option Message) (entries left : DirectoryEntries) (who after : Requester) (content : List ℕ) (old new : Put) → message_in content ≡ o → now ≡ limited_read terms.limit o →
     IfOk r (λ closes. Gives (answer_read terms.keeps entries who now) old new left after closes) →
-    IfOk r (λ closes. Gives ((rules terms).answer entries who bytes) old new left after closes)
-unfolding rules
-answered_as terms r o now entries left who after bytes old new is is_now h =
-    IfOk-weaker r (λ closes. Gives (answer_read terms.keeps entries who now) old new left after closes) (λ closes. Gives ((rules terms).answer entries who bytes) old new left after closes)
+    IfOk r (λ closes. Gives (answer_to terms entries who content) old new left after closes)
+answered_as terms r o now entries left who after content old new is is_now h =
+    IfOk-weaker r (λ closes. Gives (answer_read terms.keeps entries who now) old new left after closes) (λ closes. Gives (answer_to terms entries who content) old new left after closes)
     (λ closes gives. subst (λ m. Gives (answer_read terms.keeps entries who m) old new left after closes) (is_now ∙ ap (limited_read terms.limit) (sym is)) gives) h
 
 -- what is appended to replies alone, whatever changes there are
@@ -42,31 +41,40 @@ alone_as keeps changes r read entries left who after old new h =
     (λ closes. Gives (answer_read keeps entries who read) (record { replies = old; changes = changes }) (record { replies = new; changes = changes }) left after closes)
     (λ closes gives. gives keeps changes) h
 
-pub refused_as : {E : Type 0} (terms : Terms) (r : Result Bool E) (entries : DirectoryEntries) (who : Requester) (bytes old new changes : List ℕ) → message_of bytes ≡ None →
+pub refused_as : {E : Type 0} (terms : Terms) (r : Result Bool E) (entries : DirectoryEntries) (who : Requester) (content old new changes : List ℕ) → message_in content ≡ None →
     IfOk r (λ closes. (keeps : Bool) (before : List ℕ) (others : DirectoryEntries) (asks : Requester) →
     Gives (answer_read keeps others asks None) (record { replies = old; changes = before }) (record { replies = new; changes = before }) others asks closes) →
-    IfOk r (λ closes. Gives ((rules terms).answer entries who bytes) (record { replies = old; changes = changes }) (record { replies = new; changes = changes }) entries who closes)
-unfolding rules
-refused_as terms r entries who bytes old new changes is h =
+    IfOk r (λ closes. Gives (answer_to terms entries who content) (record { replies = old; changes = changes }) (record { replies = new; changes = changes }) entries who closes)
+refused_as terms r entries who content old new changes is h =
     IfOk-weaker r
     (λ closes. (keeps : Bool) (before : List ℕ) (others : DirectoryEntries) (asks : Requester) →
     Gives (answer_read keeps others asks None) (record { replies = old; changes = before }) (record { replies = new; changes = before }) others asks closes)
-    (λ closes. Gives ((rules terms).answer entries who bytes) (record { replies = old; changes = changes }) (record { replies = new; changes = changes }) entries who closes)
+    (λ closes. Gives (answer_to terms entries who content) (record { replies = old; changes = changes }) (record { replies = new; changes = changes }) entries who closes)
     (λ closes gives. subst (λ m. Gives (answer_read terms.keeps entries who m) (record { replies = old; changes = changes }) (record { replies = new; changes = changes }) entries who closes)
     (ap (limited_read terms.limit) (sym is)) (gives terms.keeps changes entries who)) h
 
--- the replies to octets are short where those to what they are read as are
-pub short_as : {E : Type 0} (terms : Terms) (r : Result Bool E) (o now : Option Message) (entries : DirectoryEntries) (who : Requester) (bytes : List ℕ) → message_of bytes ≡ o → now ≡ limited_read terms.limit o →
-    OnOk r (IsShortAnswer entries who now) → OnOk r (IsAnsweredShort terms (record { tree = entries; who = who; message = bytes }))
-unfolding IsAnsweredShort
-short_as terms r o now entries who bytes is is_now h =
+-- the replies to a content are short where those to what it is read as are
+pub short_as : {E : Type 0} (terms : Terms) (r : Result Bool E) (o now : Option Message) (entries : DirectoryEntries) (who : Requester) (content : List ℕ) → message_in content ≡ o → now ≡ limited_read terms.limit o →
+    OnOk r (IsShortAnswer entries who now) → OnOk r (IsShortAnswer entries who (limited_read terms.limit (message_in content)))
+short_as terms r o now entries who content is is_now h =
     on_ok_weaker r (λ short. subst (λ (read : Option Message). IsShortAnswer entries who read) (is_now ∙ ap (limited_read terms.limit) (sym is)) short) h
 
-pub short_notice : {E : Type 0} (terms : Terms) (r : Result Bool E) (entries : DirectoryEntries) (who : Requester) (bytes : List ℕ) → message_of bytes ≡ None →
-    OnOk r (IsAnsweredShort terms (record { tree = entries; who = who; message = bytes }))
+pub short_notice : {E : Type 0} (terms : Terms) (r : Result Bool E) (entries : DirectoryEntries) (who : Requester) (content : List ℕ) → message_in content ≡ None → OnOk r (IsShortAnswer entries who (limited_read terms.limit (message_in content)))
+short_notice terms (Ok closes) entries who content is = subst (λ (read : Option Message). IsShortAnswer entries who (limited_read terms.limit read)) (sym is) tt
+short_notice terms (Err fault) entries who content is = tt
+
+-- what answers the content of a message answers its octets
+pub gives_content : (terms : Terms) (entries : DirectoryEntries) (who : Requester) (bytes content : List ℕ) {old new : Put} {left : DirectoryEntries} {after : Requester} {closes : Bool} → message_of bytes ≡ message_in content →
+    Gives (answer_to terms entries who content) old new left after closes → Gives ((rules terms).answer entries who bytes) old new left after closes
+unfolding rules
+gives_content terms entries who bytes content {old} {new} {left} {after} {closes} says gives =
+    subst (λ m. Gives (answer_read terms.keeps entries who (limited_read terms.limit m)) old new left after closes) (sym says) gives
+
+-- and its replies are as short
+pub short_content : (terms : Terms) (entries : DirectoryEntries) (who : Requester) (bytes content : List ℕ) → message_of bytes ≡ message_in content → IsShortAnswer entries who (limited_read terms.limit (message_in content)) →
+    IsAnsweredShort terms (record { tree = entries; who = who; message = bytes })
 unfolding IsAnsweredShort
-short_notice terms (Ok closes) entries who bytes is = subst (λ (read : Option Message). IsShortAnswer entries who (limited_read terms.limit read)) (sym is) tt
-short_notice terms (Err fault) entries who bytes is = tt
+short_content terms entries who bytes content says short = subst (λ m. IsShortAnswer entries who (limited_read terms.limit m)) (sym says) short
 
 -- a request that closes is an unbind, to which nothing is said
 unbind_says : (id : ℕ) (controls : List Control) (entries : DirectoryEntries) (who : Requester) (asked : Request) → is_unbind asked ≡ true →

@@ -15,7 +15,7 @@ unfolding frame_at framed message_of message_in reads_into any_of required_of op
 a_bind = inr (record { count = 14; whole = refl; bind = record { id = 1; says = refl }; joins = inl refl })
 
 -- one with a list of no controls
-a_bind_with_none : IsAnonymousBind (0x30 ∷ 14 ∷ 2 ∷ 1 ∷ 1 ∷ 0x60 ∷ 7 ∷ 2 ∷ 1 ∷ 3 ∷ 4 ∷ 0 ∷ 0x80 ∷ 0 ∷ 0xa0 ∷ 0 ∷ [])
+a_bind_with_none : IsAnonymousBind (message_of (0x30 ∷ 14 ∷ 2 ∷ 1 ∷ 1 ∷ 0x60 ∷ 7 ∷ 2 ∷ 1 ∷ 3 ∷ 4 ∷ 0 ∷ 0x80 ∷ 0 ∷ 0xa0 ∷ 0 ∷ []))
 unfolding message_of message_in reads_into any_of required_of optional_of marked_of each_from each_of tagged_at piece_at piece_of number_in are_pieces pieces_of header_at length_at int_at
 a_bind_with_none = record { id = 1; says = refl }
 

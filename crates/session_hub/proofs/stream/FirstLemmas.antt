@@ -2,6 +2,7 @@
 use Rattle.std.proofs.Common.{◌≡◌, ◌<◌, ℕ, zero, suc, List, [], take, refl, sym, ap, ◌∙◌, subst, inl, inr, arith}
 use Rattle.session_model.specs.ldap_msg.declared.kinds.Frame.TheVariants.{Whole, More, Bad}
 use Rattle.session_model.specs.ldap_msg.Streams.{frame_at}
+use Rattle.session_model.specs.ldap_msg.reading.Messages.{message_of}
 use Rattle.session_hub.specs.declared.spoken.Spoken.{Spoken}
 use Rattle.session_hub.specs.declared.spoken.SpeechEnd.{SpeechEnd}
 use Rattle.session_hub.specs.declared.spoken.SpeechEnd.TheVariants.{StaysOpen, Closes, IsCut, IsFull}
@@ -26,14 +27,14 @@ not_more stream rest kept same more =
     ]
 
 -- its first message, where there is one, is an anonymous bind
-pub first_bind : (stream rest message : List ℕ) (count : ℕ) → HasKeptAnswer [] stream → rest ≡ stream → frame_at rest ≡ Whole count → message ≡ take count rest → IsAnonymousBind message
+pub first_bind : (stream rest message : List ℕ) (count : ℕ) → HasKeptAnswer [] stream → rest ≡ stream → frame_at rest ≡ Whole count → message ≡ take count rest → IsAnonymousBind (message_of message)
 first_bind stream rest message count kept same whole is =
     elim kept [
       | inl bad ↦ absurd (let e : Bad ≡ Whole count = sym bad ∙ ap frame_at (sym same) ∙ whole in cc)
       | inr begins ↦
           let e : Whole begins.count ≡ Whole count = sym begins.whole ∙ ap frame_at (sym same) ∙ whole in
           let counts : begins.count ≡ count = cc in
-          subst IsAnonymousBind (ap (λ n. take n stream) counts ∙ ap (take count) (sym same) ∙ sym is) begins.bind
+          subst (λ octets. IsAnonymousBind (message_of octets)) (ap (λ n. take n stream) counts ∙ ap (take count) (sym same) ∙ sym is) begins.bind
     ]
 
 -- where an end is made a cut, the first answer stays given

@@ -1,10 +1,12 @@
 -- What stands at the front of a stream, by its first octets alone.
-use Rattle.std.proofs.Common.{◌≡◌, ◌≤◌, ◌+◌, ◌-◌, min, ℕ, zero, suc, List, [], ◌∷◌, ◌++◌, length, take, refl, sym, ap, ◌∙◌, subst, inl, inr, arith}
+use Rattle.std.proofs.Common.{◌≡◌, ◌≤◌, ◌+◌, ◌-◌, min, ℕ, zero, suc, List, [], ◌∷◌, ◌++◌, length, take, drop, refl, sym, ap, ◌∙◌, subst, inl, inr, arith}
 use Rattle.std.proofs.Math.Seq.{take-append-add}
 use Rattle.std.proofs.lemmas.List.{take_min, take-take, length-take}
 use Rattle.session_model.specs.ldap_msg.declared.kinds.Frame.TheVariants.{Whole, Bad}
 use Rattle.session_model.specs.ldap_msg.Streams.{IsFrame, IsBroken, IsBrokenLength, IsOuter, frame_at}
 use Rattle.session_model.specs.ber_elements.write.Element.{SpellsLength}
+use Rattle.session_model.specs.ldap_msg.reading.Messages.{message_in, message_of}
+use Rattle.session_model.specs.ldap_msg.reading.Heads.{IsHeaded}
 use Rattle.session_model.proofs.ldap_msg_proofs.Theorems.{frame_sound, frame_complete}
 
 -- a length is spelled in at most five octets
@@ -63,3 +65,8 @@ take-joined zero more (x ∷ xs) ys is = ap (λ n. take n ys) (let none : more �
     take_none (y ∷ ys) = refl
 take-joined (suc room) more [] ys is = ap (λ n. take n ys) (let some : more ≡ min (suc room) (length ys) = omega arith in some) ∙ take_min (suc room) ys
 take-joined (suc room) more (x ∷ xs) ys is = ap (λ zs. x ∷ zs) (take-joined room more xs ys (omega arith))
+
+-- what a whole message says is what its content says
+pub content_says : {stream rest message content : List ℕ} {head count : ℕ} → IsHeaded rest head count → rest ≡ stream → message ≡ take count rest → content ≡ drop head message → message_of (take count stream) ≡ message_in content
+content_says {stream} {rest} {message} {content} {head} {count} headed same front behind =
+    ap (λ xs. message_of (take count xs)) (sym same) ∙ headed.message ∙ ap message_in (sym (behind ∙ ap (drop head) front))

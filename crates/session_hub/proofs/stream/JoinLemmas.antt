@@ -4,6 +4,7 @@ use Rattle.std.specs.List.{AllByRecursion}
 use Rattle.std.proofs.lemmas.List.{take-append-drop, take-append-le, take-take}
 use Rattle.session_model.specs.ldap_msg.declared.kinds.Frame.TheVariants.{Whole, Bad}
 use Rattle.session_model.specs.ldap_msg.Streams.{frame_at, whole, rest_of}
+use Rattle.session_model.specs.ldap_msg.reading.Messages.{message_of}
 use Rattle.session_model.specs.Rules.{Answered, up_to}
 use Rattle.session_model.proofs.Theorems.{speech-front_cut, speech-front_closed, answered-front_closed}
 use Rattle.session_model.proofs.ldap_msg_proofs.Theorems.{whole_append}
@@ -116,7 +117,7 @@ kept_joined true joined unread piece is some kept =
           inr (record {
             count = begins.count;
             whole = subst (λ s. frame_at s ≡ Whole begins.count) same begins.whole;
-            bind = subst (λ s. IsAnonymousBind (take begins.count s)) same begins.bind;
+            bind = subst (λ s. IsAnonymousBind (message_of (take begins.count s))) same begins.bind;
             joins = inl refl;
           })
     ]
@@ -129,7 +130,7 @@ kept_joined false joined unread piece is some kept =
           inr (record {
             count = begins.count;
             whole = subst (λ s. frame_at s ≡ Whole begins.count) same (whole_front begins.count kept_room (unread ++ piece) few begins.whole);
-            bind = subst IsAnonymousBind (sym (take-take begins.count kept_room (unread ++ piece) few) ∙ ap (take begins.count) same) begins.bind;
+            bind = subst (λ s. IsAnonymousBind (message_of s)) (sym (take-take begins.count kept_room (unread ++ piece) few) ∙ ap (take begins.count) same) begins.bind;
             joins = inl refl;
           }))
     ]

@@ -7,7 +7,7 @@ use Rattle.session_model.specs.ber_layout.Layouts.{reads_into}
 use Rattle.session_model.specs.ber_layout.components.Components.{required_of, any_of}
 use Rattle.session_hub.specs.SimpleBinds.{credentials_of, simple_in, says_no_controls}
 use Rattle.session_hub.proofs.simple.ControlLemmas.{message_before, other_controls}
-use Rattle.session_hub.proofs.simple.BindLemmas.{numbered, none_before, simple_before}
+use Rattle.session_hub.proofs.simple.BindLemmas.{numbered, none_before, simple_before, message_simple}
 use Rattle.session_hub.proofs.simple.bind_in.Goals as goal
 
 pub returns-in_err-first-clause-exact : goal.returns-in_err-first-clause-exact
@@ -66,3 +66,7 @@ returns-clause-exact c =
     let bind : operation.tag ≡ 0x60 = grind (arith, nat_tests, c.if-operation-tag.false, c.tag.ensures.exact) in
     let credentials : credentials_of (bind_of operation.content.now) ≡ Some (c.in_ok-name.field-0.name.now, c.in_ok-name.field-0.password.now) = search rules in
     ap simple_in before ∙ simple_before id operation.tag operation.content.now operation.rest.now bind none ∙ ap (numbered id) credentials
+
+-- a message with these parts is the bind's
+pub returns-clause-message : goal.returns-clause-message
+returns-clause-message c = message_simple (message_in c.args.content.now) c.in_ok-id.id c.in_ok-name.field-0.name.now c.in_ok-name.field-0.password.now (returns-clause-exact c)
