@@ -103,6 +103,10 @@ beside shelf out = record { shelf = shelf; out = out }
 abbrev pub at_count : ℕ → Outside → Outside
 at_count count outside = beside (shelved outside.shelf.files count) outside.out
 
+-- the same with these files on its shelf
+abbrev pub with_files : Option Files → Outside → Outside
+with_files files outside = beside (shelved files outside.shelf.faults) outside.out
+
 -- it put the text that it came to, and ended so; or a front of it, with the status of a sink that refused or of no memory
 unfoldable pub Prints : List (List ℕ) → Outside → AuditStatus → Outside → Type 0
 Prints words before status after =

@@ -8,7 +8,7 @@ use Rattle.command_files.specs.declared.loading.Trouble.{Trouble}
 use Rattle.command_files.specs.declared.loading.Trouble.TheVariants as trouble
 use Rattle.command_files.specs.dir_tree.tree.Numbered.{Numbered, entries_of}
 use Rattle.command_files.specs.Ending.{EndsBy}
-use Rattle.command_files.specs.Outside.{Written, shelved}
+use Rattle.command_files.specs.Outside.{Written}
 use Rattle.command_files.specs.Troubles.{trouble_text, no_file_text, bad_data_text, bad_line_text}
 use Rattle.command_files.specs.loading.Accepting.{IsUnread}
 use Rattle.command_files.specs.loading.Loading.{IsRefused, LoadsData, LoadsScript}
@@ -18,7 +18,7 @@ use Rattle.audit_program.specs.declared.status.AuditStatus.{AuditStatus}
 use Rattle.audit_program.specs.declared.status.AuditStatus.TheVariants.{Done, Usage, BadData, ShelfFault, NoMemory, BadScript}
 use Rattle.audit_program.specs.Statuses.{put_statuses, trouble_status, usage_text}
 use Rattle.audit_program.specs.Words.{AuditView, IsAsked}
-use Rattle.audit_program.specs.Auditing.{AskNoAudit, Comes, Outside, Prints, beside}
+use Rattle.audit_program.specs.Auditing.{AskNoAudit, Comes, Outside, Prints, with_files}
 use Rattle.audit_program.specs.Performing.{Performs, Tells}
 
 -- nothing was put for want of memory
@@ -125,12 +125,12 @@ Performs-told asked before after middle status rows link loads reads (inr none) 
 
 -- after the data file was loaded, from the shelf as it then was
 pub Performs-after :
-    (asked : AuditView) (files kept : Option Files) (count middle : ℕ) (out : Written) (status : AuditStatus) (after : Outside) (rows : List Numbered)
-    → kept ≡ files → LoadsData files asked.data_file count middle (Ok rows)
-    → (LoadsData kept asked.data_file count middle (Ok rows) → Performs asked (beside (shelved kept count) out) status after) → Performs asked (beside (shelved files count) out) status after
-Performs-after asked files kept count middle out status after rows same loads performs =
-    let P : Option Files → Type 0 = λ known. Performs asked (beside (shelved known count) out) status after in
-    let Q : Option Files → Type 0 = λ known. LoadsData known asked.data_file count middle (Ok rows) in
+    (asked : AuditView) (before after : Outside) (kept : Option Files) (middle : ℕ) (status : AuditStatus) (rows : List Numbered)
+    → kept ≡ before.shelf.files → LoadsData before.shelf.files asked.data_file before.shelf.faults middle (Ok rows)
+    → (LoadsData kept asked.data_file before.shelf.faults middle (Ok rows) → Performs asked (with_files kept before) status after) → Performs asked before status after
+Performs-after asked before after kept middle status rows same loads performs =
+    let P : Option Files → Type 0 = λ known. Performs asked (with_files known before) status after in
+    let Q : Option Files → Type 0 = λ known. LoadsData known asked.data_file before.shelf.faults middle (Ok rows) in
     subst P same (performs (subst Q (sym same) loads))
 
 -- a tree that was loaded is good
