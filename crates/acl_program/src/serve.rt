@@ -7,7 +7,7 @@ ghost use Rattle.command_files.specs.dir_tree.tree.Numbered.{entries_of};
 ghost use Rattle.command_files.specs.loading.Changing.{left_of};
 ghost use Rattle.command_files.specs.wire_io.Putting.{PutsAll, PutCause};
 ghost use Rattle.command_files.specs.Outside.{written};
-ghost use Rattle.acl_program.specs.serve.Listening.{Listens, ListensOn, ServesOpened, listening_asked};
+ghost use Rattle.acl_program.specs.serve.Listening.{EndsUnready, Listens, ListensOn, ServesOpened, listening_asked};
 ghost use Rattle.acl_program.specs.Outcomes.{Served};
 ghost use Rattle.acl_program.specs.program.Outside.{linked};
 ghost use Rattle.acl_program.specs.program.Playing.{Ends, Performs};
@@ -46,8 +46,7 @@ pub(crate) fn serve<H: Shelf, K: Sink, L: Link>(
 {
     match make_ready(alloc, asked, outside) {
         Ok(loaded) => listen_for(alloc, loaded, asked, outside),
-        Err(Unready::Files(trouble)) => print_trouble(alloc, trouble, &mut outside.out),
-        Err(Unready::Store(fault)) => print_store_fault(fault, &mut outside.out),
+        Err(unready) => print_unready(alloc, unready, &mut outside.out),
     }
 }
 
@@ -213,6 +212,17 @@ fn loop_status(ended: Ended) -> Status
         Ended::LinkFault => Status::LinkFault,
         Ended::StoreFault => Status::StoreFault,
         Ended::NoMemory => Status::NoMemory,
+    }
+}
+
+/// Prints why nothing was ready to be served.
+fn print_unready<K: Sink>(alloc: Global, unready: Unready, out: &mut K) -> Status
+    ensures ends { EndsUnready unready (written (K.put out.old) (K.faults out.old)) result
+        (written (K.put out.new) (K.faults out.new)) }
+{
+    match unready {
+        Unready::Files(trouble) => print_trouble(alloc, trouble, out),
+        Unready::Store(fault) => print_store_fault(fault, out),
     }
 }
 

@@ -5,10 +5,9 @@ ghost use Rattle.command_files.specs.aci_item.Rules.{IsGoodTree};
 ghost use Rattle.command_files.specs.dir_tree.tree.Numbered.{entries_of};
 ghost use Rattle.command_files.specs.loading.Changing.{head_of, left_of, unchanged};
 ghost use Rattle.command_files.specs.loading.Loading.{LoadsFile};
-ghost use Rattle.command_files.specs.Outside.{shelved};
 ghost use Rattle.command_words.specs.command.Command.{ServingView, serving_view};
-ghost use Rattle.acl_program.specs.program.Outside.{Linked, at_count, beside, linked};
-ghost use Rattle.acl_program.specs.serve.Listening.{MakesReady, Prepares};
+ghost use Rattle.acl_program.specs.program.Outside.{Linked, at_count, at_link, linked};
+ghost use Rattle.acl_program.specs.serve.Listening.{Prepares, Readies};
 ghost use Rattle.acl_program.specs.serve.Storing.{OpensStore, Stores, whole_of};
 
 use crate::outside::Outside;
@@ -33,7 +32,7 @@ pub(crate) fn make_ready<H: Shelf, K: Sink, L: Link>(
     asked: &Serving<'_>,
     outside: &mut Outside<H, K, L>,
 ) -> Result<Loaded, Unready>
-    ensures readies { MakesReady (serving_view asked.now) outside.old result outside.new }
+    ensures readies { Readies (serving_view asked.now) outside.old result outside.new }
     ensures kept { outside.new.shelf.files ≡ outside.old.shelf.files }
     ensures out { outside.new.out ≡ outside.old.out }
 {
@@ -67,7 +66,7 @@ fn open_store<H: Shelf, K: Sink, L: Link>(
     requires good { IsGoodTree (entries_of file.tree) }
     ensures readies { (serving : ServingView) (count : ℕ) → serving.changes ≡ Some changes.now
         → LoadsFile outside.old.shelf.files serving.data_file count outside.old.shelf.faults (Ok file)
-        → MakesReady serving (at_count count outside.old) result outside.new }
+        → Readies serving (at_count count outside.old) result outside.new }
     ensures kept { outside.new.shelf.files ≡ outside.old.shelf.files }
     ensures out { outside.new.out ≡ outside.old.out }
 {
@@ -88,7 +87,7 @@ fn read_store<H: Shelf, K: Sink, L: Link>(
     ensures readies { (serving : ServingView) (count : ℕ) (before : Linked) → serving.changes ≡ Some changes.now
         → LoadsFile outside.old.shelf.files serving.data_file count outside.old.shelf.faults (Ok file)
         → OpensStore (Some changes.now) (Ok tt) before outside.old.link
-        → MakesReady serving (beside (shelved outside.old.shelf.files count) outside.old.out before) result outside.new }
+        → Readies serving (at_count count (at_link before outside.old)) result outside.new }
     ensures kept { outside.new.shelf.files ≡ outside.old.shelf.files }
     ensures out { outside.new.out ≡ outside.old.out }
 {

@@ -8,7 +8,6 @@ use Rattle.command_words.proofs.Theorems.{IsCommand-unique}
 use Rattle.command_files.specs.data_file.Files.{cause_of}
 use Rattle.command_files.specs.ldif_load.load.DataFile.{FileCause}
 use Rattle.command_files.specs.dir_tree.tree.Numbered.{Numbered, entries_of}
-use Rattle.command_files.specs.Outside.{Written, shelved}
 use Rattle.command_files.proofs.Theorems.{FailsIn-weaker}
 use Rattle.acl_program.specs.declared.status.Status.{Status}
 use Rattle.acl_program.specs.declared.status.Status.TheVariants.{NoMemory}
@@ -22,7 +21,7 @@ use Rattle.command_files.specs.loading.Loading.{IsRefused, LoadsData, LoadsScrip
 use Rattle.acl_program.specs.Answering.{Tells}
 use Rattle.acl_program.specs.Outcomes.{Checked, Dumped, Replayed, Answered, OutOfMemory}
 use Rattle.acl_program.specs.program.Causes.{AsksData, Comes, IsBadSecond, Links, OpensFor, RefusesSecond, Second, TellsLineAlone, data_of, changes_of, second_of}
-use Rattle.acl_program.specs.program.Outside.{Linked, Outside, beside}
+use Rattle.acl_program.specs.program.Outside.{Linked, Outside, with_files}
 use Rattle.acl_program.specs.program.Playing.{Ends, ComesFor, LinksFor, Performs}
 use Rattle.acl_program.specs.Troubles.{outcome_of}
 use Rattle.acl_program.proofs.troubles.EndsLemmas.{Ends-no_memory}
@@ -162,12 +161,12 @@ Performs-second_refused asked name read bad before after middle status rows why 
 
 -- a command after its data file was loaded, from the shelf as it then was
 pub Performs-after :
-    (asked : CommandView) (files kept : Option Files) (name : List ℕ) (count middle : ℕ) (out : Written) (link : Linked) (status : Status) (after : Outside) (rows : List Numbered)
-    → kept ≡ files → LoadsData files name count middle (Ok rows)
-    → (LoadsData kept name count middle (Ok rows) → Performs asked (beside (shelved kept count) out link) status after) → Performs asked (beside (shelved files count) out link) status after
-Performs-after asked files kept name count middle out link status after rows same loads performs =
-    let P : Option Files → Type 0 = λ known. Performs asked (beside (shelved known count) out link) status after in
-    let Q : Option Files → Type 0 = λ known. LoadsData known name count middle (Ok rows) in
+    (asked : CommandView) (before after : Outside) (kept : Option Files) (name : List ℕ) (middle : ℕ) (status : Status) (rows : List Numbered)
+    → kept ≡ before.shelf.files → LoadsData before.shelf.files name before.shelf.faults middle (Ok rows)
+    → (LoadsData kept name before.shelf.faults middle (Ok rows) → Performs asked (with_files kept before) status after) → Performs asked before status after
+Performs-after asked before after kept name middle status rows same loads performs =
+    let P : Option Files → Type 0 = λ known. Performs asked (with_files known before) status after in
+    let Q : Option Files → Type 0 = λ known. LoadsData known name before.shelf.faults middle (Ok rows) in
     subst P same (performs (subst Q (sym same) loads))
 
 -- a script was replayed

@@ -17,14 +17,15 @@ use Rattle.command_files.specs.loading.Changing.{left_of}
 use Rattle.command_files.specs.loading.Loading.{LoadsTree}
 use Rattle.command_files.specs.Outside.{Written}
 use Rattle.acl_program.specs.declared.serve.ListenAsked.{ListenAsked}
+use Rattle.acl_program.specs.declared.storing.Unready.{Unready}
 use Rattle.acl_program.specs.declared.storing.Unready.TheVariants as unready
 use Rattle.acl_program.specs.declared.status.Status.{Status}
 use Rattle.acl_program.specs.declared.status.Status.TheVariants.{NoMemory}
 use Rattle.acl_program.specs.program.Causes.{Comes, Links, MayOpenStore}
-use Rattle.acl_program.specs.serve.Listening.{FollowsOpen, LeavesLink, Listens, ListensOn, MakesReady, OpensAtMost, Readies, ServesOpened, listening_asked}
+use Rattle.acl_program.specs.serve.Listening.{EndsUnready, FollowsOpen, LeavesLink, Listens, ListensOn, OpensAtMost, Readies, ServesOpened, listening_asked}
 use Rattle.acl_program.specs.Outcomes.{Served, text_of, status_of, settled}
 use Rattle.acl_program.specs.Troubles.{outcome_of}
-use Rattle.acl_program.specs.program.Outside.{Linked, Outside, beside}
+use Rattle.acl_program.specs.program.Outside.{Linked, Outside, at_link, beside}
 use Rattle.acl_program.specs.program.Playing.{Ends, LinksFor, Performs}
 use Rattle.acl_program.specs.serve.Storing.{ServeAsked, StoreCall, IsPrepared, StoreFails, serve_asked}
 use Rattle.acl_program.specs.serve.Serving.{ServeEnd, NotStored, NotBegun, NotOpened, NotServed, LoopEnded, Opens, LinkListens, LinkServes, changes_read, ended_text, loop_status, opened_text}
@@ -42,7 +43,7 @@ follows_open asked (LoopEnded how) before opened after opens follows = (opened, 
 
 module _ (asked : ServeAsked) (before after : Outside) (status : Status) where
   -- the link opened, and what followed
-  pub Listens-opened : (opened : Linked) → Opens asked.serving (Ok tt) before.link opened → ListensOn asked (beside before.shelf before.out opened) status after → Listens asked before status after
+  pub Listens-opened : (opened : Linked) → Opens asked.serving (Ok tt) before.link opened → ListensOn asked (at_link opened before) status after → Listens asked before status after
   unfolding Listens ListensOn
   Listens-opened opened opens on = (on.0, on.1, follows_open asked on.0 before.link opened after.link opens on.2)
 
@@ -113,7 +114,7 @@ all_read asked (LoopEnded how) ready after P listens good = good
 -- what was ready was served: the shelf stayed, and what was printed began with what was there
 pub Performs-served :
     (serving : ServingView) (before ready after : Outside) (status : Status) (loaded : Loaded)
-    → MakesReady serving before (Ok loaded) ready → ready.out ≡ before.out
+    → Readies serving before (Ok loaded) ready → ready.out ≡ before.out
     → after.shelf ≡ ready.shelf → ((content : List ℕ) → Listens (serve_asked serving content (left_of loaded)) ready status after) → Performs (Serve serving) before status after
 unfolding Performs Listens Readies Comes Links
 Performs-served serving before ready after status loaded readies unprinted kept listens =
@@ -141,27 +142,20 @@ links_unready serving (trouble.BadLine file line) before after leaves = λ words
 links_unready serving (trouble.BadChanges line cause) before after leaves = λ words is. (Serve serving, is, leaves)
 links_unready serving trouble.NoMemory before after leaves = λ words is. may_open serving words before after is leaves
 
+-- nothing was ready to be served: a file wasn't taken, or a call of the store failed
 pub Performs-unready :
-    (serving : ServingView) (before ready after : Outside) (status : Status) (why : Trouble)
-    → MakesReady serving before (Err (unready.Files why)) ready → ready.out ≡ before.out
-    → Ends (outcome_of why) ready.out status after.out → after.shelf ≡ ready.shelf → after.link ≡ ready.link → Performs (Serve serving) before status after
-unfolding Performs Readies
-Performs-unready serving before ready after status why readies unprinted ends kept same = (
+    (serving : ServingView) (before ready after : Outside) (status : Status) (why : Unready)
+    → Readies serving before (Err why) ready → ready.out ≡ before.out → EndsUnready why ready.out status after.out → after.shelf ≡ ready.shelf → after.link ≡ ready.link
+    → Performs (Serve serving) before status after
+unfolding Performs Readies Comes Links LinkServes
+Performs-unready serving before ready after status (unready.Files why) readies unprinted ends kept same = (
   outcome_of why,
   tree_refused (Serve serving) serving.data_file before.shelf.files before.shelf.faults after.shelf.faults why refl refl
       (subst (λ shelf. LoadsTree before.shelf.files serving.data_file serving.changes before.shelf.faults shelf.faults (Err why)) (sym kept) readies.0),
   subst (λ out. Ends (outcome_of why) out status after.out) unprinted ends,
   links_unready serving why before.link after.link (subst (LeavesLink serving.changes why before.link) (sym same) readies.1),
 )
-
--- a call of the store failed
-pub Performs-unstored :
-    (serving : ServingView) (before ready after : Outside) (status : Status) (fault : NextFault)
-    → MakesReady serving before (Err (unready.Store fault)) ready → ready.out ≡ before.out
-    → ((asked : ServeAsked) (call : StoreCall) → Ends (Served asked (NotStored call fault)) ready.out status after.out) → after.shelf ≡ ready.shelf → after.link ≡ ready.link
-    → Performs (Serve serving) before status after
-unfolding Performs Readies Comes Links LinkServes
-Performs-unstored serving before ready after status fault readies unprinted ends kept same =
+Performs-unready serving before ready after status (unready.Store fault) readies unprinted ends kept same =
     let own = readies.0 in
     let asked : ServeAsked = serve_asked serving own.content own.left in (
       Served asked (NotStored own.call fault),

@@ -15,133 +15,143 @@ use Rattle.command_files.specs.loading.Loading.{LoadsChanges, LoadsData, LoadsFi
 use Rattle.command_files.proofs.Theorems.{LoadsTree-read, LoadsTree-unread, changes_loaded, changes_stay, file_loaded, file_stays}
 use Rattle.acl_program.specs.declared.storing.Unready.{Unready}
 use Rattle.acl_program.specs.declared.storing.Unready.TheVariants as unready
-use Rattle.acl_program.specs.program.Outside.{Linked}
+use Rattle.acl_program.specs.program.Outside.{Linked, Outside, with_files}
 use Rattle.acl_program.specs.serve.Listening.{LeavesLink, Prepares, Readies}
 use Rattle.acl_program.specs.serve.Storing.{OpenStore, CutStore, StoreHead, OpensStore, CutsStore, Stores, Heads, IsCut, IsPrepared, serve_asked, whole_of}
 
 -- a data file that wasn't loaded leaves the link as it is
-leaves_same : (changes : Option (List ℕ)) (why : Trouble) (files : Option Files) (name : List ℕ) (count last : ℕ) (link : Linked) → LoadsFile files name count last (Err why) → LeavesLink changes why link link
+leaves_same : (changes : Option (List ℕ)) (why : Trouble) (files : Option Files) (name : List ℕ) (count last : ℕ) (before after : Linked) → after ≡ before → LoadsFile files name count last (Err why) → LeavesLink changes why before after
 unfolding LoadsFile LoadsData
-leaves_same changes trouble.NoFile files name count last link loads = inl refl
-leaves_same changes (trouble.BadData line cause) files name count last link loads = refl
-leaves_same changes (trouble.BadLine file line) files name count last link loads = refl
-leaves_same changes (trouble.BadChanges line cause) files name count last link loads = absurd loads
-leaves_same changes trouble.NoMemory files name count last link loads = inl refl
+leaves_same changes trouble.NoFile files name count last before after same loads = inl same
+leaves_same changes (trouble.BadData line cause) files name count last before after same loads = same
+leaves_same changes (trouble.BadLine file line) files name count last before after same loads = same
+leaves_same changes (trouble.BadChanges line cause) files name count last before after same loads = absurd loads
+leaves_same changes trouble.NoMemory files name count last before after same loads = inl same
 
--- the data file wasn't loaded
-pub Readies-unread :
-    (serving : ServingView) (files : Option Files) (count last : ℕ) (link : Linked) (why : Trouble)
-    → LoadsFile files serving.data_file count last (Err why) → Readies serving files count last link (Err (unready.Files why)) link
-unfolding Readies
-Readies-unread serving files count last link why loads =
-    (LoadsTree-unread files serving.data_file serving.changes count last why loads, leaves_same serving.changes why files serving.data_file count last link loads)
-
--- it was loaded, and there are no changes
-pub Readies-alone :
-    (serving : ServingView) (files : Option Files) (count last : ℕ) (link : Linked) (file : DataFile) (loaded : Loaded)
-    → serving.changes ≡ None → LoadsFile files serving.data_file count last (Ok file) → left_of loaded ≡ unchanged (entries_of file.tree) → Readies serving files count last link (Ok loaded) link
-unfolding Readies
-Readies-alone serving files count last link file loaded none loads is =
-    let content = file.content.items in
-    let good = subst (λ left. IsLoadedFrom (HoldsIn files) serving.data_file None content left) (sym is) (file_loaded files serving.data_file count last file loads) in (
-      record {
-        content = content;
-        good = subst (λ changes. IsLoadedFrom (HoldsIn files) serving.data_file changes content (left_of loaded)) (sym none) good;
-        ready = subst (λ changes. IsPrepared (serve_asked serving content (left_of loaded)) changes link link) (sym none) refl;
-      },
-      file_stays files serving.data_file count last file loads,
-    )
-
--- what follows, from the shelf as it then was
-pub Readies-after :
-    (serving : ServingView) (files kept : Option Files) (count middle last : ℕ) (before after : Linked) (file : DataFile) (result : Result Loaded Unready)
-    → kept ≡ files → LoadsFile files serving.data_file count middle (Ok file) → (LoadsFile kept serving.data_file count middle (Ok file) → Readies serving kept count last before result after)
-    → Readies serving files count last before result after
-Readies-after serving files kept count middle last before after file result same loads readies =
-    let P : Option Files → Type 0 = λ known. Readies serving known count last before result after in
-    let Q : Option Files → Type 0 = λ known. LoadsFile known serving.data_file count middle (Ok file) in
-    subst P same (readies (subst Q (sym same) loads))
-
-module _ (serving : ServingView) (files : Option Files) (count middle : ℕ) (file : DataFile) (name : List ℕ)
-    (named : serving.changes ≡ Some name) (loads : LoadsFile files serving.data_file count middle (Ok file)) where
-  -- the store failed to open
-  pub Readies-unopened : (before after : Linked) (fault : NextFault) → OpensStore (Some name) (Err fault) before after → Readies serving files count middle before (Err (unready.Store fault)) after
+module _ (serving : ServingView) (before after : Outside) where
+  -- the data file wasn't loaded
+  pub Readies-unread :
+      (why : Trouble) → LoadsFile before.shelf.files serving.data_file before.shelf.faults after.shelf.faults (Err why) → after.link ≡ before.link → Readies serving before (Err (unready.Files why)) after
   unfolding Readies
-  Readies-unopened before after fault opens =
-      let content = file.content.items in (
+  Readies-unread why loads same = (
+    LoadsTree-unread before.shelf.files serving.data_file serving.changes before.shelf.faults after.shelf.faults why loads,
+    leaves_same serving.changes why before.shelf.files serving.data_file before.shelf.faults after.shelf.faults before.link after.link same loads,
+  )
+
+  -- it was loaded, and there are no changes
+  pub Readies-alone :
+      (file : DataFile) (loaded : Loaded)
+      → serving.changes ≡ None → LoadsFile before.shelf.files serving.data_file before.shelf.faults after.shelf.faults (Ok file) → left_of loaded ≡ unchanged (entries_of file.tree)
+      → after.link ≡ before.link → Readies serving before (Ok loaded) after
+  unfolding Readies
+  Readies-alone file loaded none loads is same =
+      let content = file.content.items in
+      let alone = file_loaded before.shelf.files serving.data_file before.shelf.faults after.shelf.faults file loads in
+      let good = subst (λ left. IsLoadedFrom (HoldsIn before.shelf.files) serving.data_file None content left) (sym is) alone in (
         record {
-          call = OpenStore;
           content = content;
-          left = unchanged (entries_of file.tree);
-          good = file_loaded files serving.data_file count middle file loads;
-          fails = subst (λ changes. OpensStore changes (Err fault) before after) (sym named) opens;
+          good = subst (λ changes. IsLoadedFrom (HoldsIn before.shelf.files) serving.data_file changes content (left_of loaded)) (sym none) good;
+          ready = subst (λ changes. IsPrepared (serve_asked serving content (left_of loaded)) changes before.link after.link) (sym none) same;
         },
-        file_stays files serving.data_file count middle file loads,
+        file_stays before.shelf.files serving.data_file before.shelf.faults after.shelf.faults file loads,
       )
 
-  -- it opened
-  module _ (before opened : Linked) (opens : OpensStore (Some name) (Ok tt) before opened) where
-    opens_own : OpensStore serving.changes (Ok tt) before opened
-    opens_own = subst (λ changes. OpensStore changes (Ok tt) before opened) (sym named) opens
+  -- what follows, from the shelf as it then was
+  pub Readies-after :
+      (kept : Option Files) (middle : ℕ) (file : DataFile) (result : Result Loaded Unready)
+      → kept ≡ before.shelf.files → LoadsFile before.shelf.files serving.data_file before.shelf.faults middle (Ok file)
+      → (LoadsFile kept serving.data_file before.shelf.faults middle (Ok file) → Readies serving (with_files kept before) result after) → Readies serving before result after
+  Readies-after kept middle file result same loads readies =
+      let P : Option Files → Type 0 = λ known. Readies serving (with_files known before) result after in
+      let Q : Option Files → Type 0 = λ known. LoadsFile known serving.data_file before.shelf.faults middle (Ok file) in
+      subst P same (readies (subst Q (sym same) loads))
+
+  module _ (middle : ℕ) (file : DataFile) (name : List ℕ) (named : serving.changes ≡ Some name) (loads : LoadsFile before.shelf.files serving.data_file before.shelf.faults middle (Ok file)) where
+    -- the store failed to open
+    pub Readies-unopened : (fault : NextFault) → OpensStore (Some name) (Err fault) before.link after.link → after.shelf.faults ≡ middle → Readies serving before (Err (unready.Store fault)) after
+    unfolding Readies
+    Readies-unopened fault opens stays =
+        let content = file.content.items in (
+          record {
+            call = OpenStore;
+            content = content;
+            left = unchanged (entries_of file.tree);
+            good = file_loaded before.shelf.files serving.data_file before.shelf.faults middle file loads;
+            fails = subst (λ changes. OpensStore changes (Err fault) before.link after.link) (sym named) opens;
+          },
+          stays ∙ file_stays before.shelf.files serving.data_file before.shelf.faults middle file loads,
+        )
+
+    -- it opened
+    opens_own : (opened : Linked) → OpensStore (Some name) (Ok tt) before.link opened → OpensStore serving.changes (Ok tt) before.link opened
+    opens_own opened opens = subst (λ changes. OpensStore changes (Ok tt) before.link opened) (sym named) opens
 
     -- and the file of changes wasn't taken
-    leaves_opened : (why : Trouble) (entries : List EntryInformation) (content : List ℕ) (kept : Option Files) (last : ℕ) → LoadsChanges entries content kept name middle last (Err why) → LeavesLink serving.changes why before opened
+    leaves_opened :
+        (why : Trouble) (entries : List EntryInformation) (content : List ℕ)
+        → OpensStore (Some name) (Ok tt) before.link after.link → LoadsChanges entries content before.shelf.files name middle after.shelf.faults (Err why) → LeavesLink serving.changes why before.link after.link
     unfolding LoadsChanges
-    leaves_opened trouble.NoFile entries content kept last refused = inr opens_own
-    leaves_opened (trouble.BadData line cause) entries content kept last refused = absurd refused
-    leaves_opened (trouble.BadLine kind line) entries content kept last refused = absurd refused
-    leaves_opened (trouble.BadChanges line cause) entries content kept last refused = opens_own
-    leaves_opened trouble.NoMemory entries content kept last refused = inr opens_own
+    leaves_opened trouble.NoFile entries content opens refused = inr (opens_own after.link opens)
+    leaves_opened (trouble.BadData line cause) entries content opens refused = absurd refused
+    leaves_opened (trouble.BadLine kind line) entries content opens refused = absurd refused
+    leaves_opened (trouble.BadChanges line cause) entries content opens refused = opens_own after.link opens
+    leaves_opened trouble.NoMemory entries content opens refused = inr (opens_own after.link opens)
 
-    pub Readies-refused : (last : ℕ) (lent : List ℕ) (why : Trouble) → lent ≡ file.content.items → LoadsChanges (entries_of file.tree) lent files name middle last (Err why) → Readies serving files count last before (Err (unready.Files why)) opened
+    pub Readies-refused :
+        (lent : List ℕ) (why : Trouble) → OpensStore (Some name) (Ok tt) before.link after.link → lent ≡ file.content.items
+        → LoadsChanges (entries_of file.tree) lent before.shelf.files name middle after.shelf.faults (Err why) → Readies serving before (Err (unready.Files why)) after
     unfolding Readies
-    Readies-refused last lent why same refused = (
-      subst (λ changes. LoadsTree files serving.data_file changes count last (Err why)) (sym named)
-          (LoadsTree-read files files serving.data_file name lent count middle last file (Err why) same refl loads refused),
-      leaves_opened why (entries_of file.tree) lent files last refused,
+    Readies-refused lent why opens same refused = (
+      subst (λ changes. LoadsTree before.shelf.files serving.data_file changes before.shelf.faults after.shelf.faults (Err why)) (sym named)
+          (LoadsTree-read before.shelf.files before.shelf.files serving.data_file name lent before.shelf.faults middle after.shelf.faults file (Err why) same refl loads refused),
+      leaves_opened why (entries_of file.tree) lent opens refused,
     )
 
     -- it was taken
-    module _ (last : ℕ) (lent : List ℕ) (loaded : Loaded) (same : lent ≡ file.content.items) (taken : LoadsChanges (entries_of file.tree) lent files name middle last (Ok loaded)) where
-      taken_own : LoadsChanges (entries_of file.tree) file.content.items files name middle last (Ok loaded)
-      taken_own = subst (λ octets. LoadsChanges (entries_of file.tree) octets files name middle last (Ok loaded)) same taken
+    module _ (opened : Linked) (lent : List ℕ) (loaded : Loaded) (opens : OpensStore (Some name) (Ok tt) before.link opened) (same : lent ≡ file.content.items)
+        (taken : LoadsChanges (entries_of file.tree) lent before.shelf.files name middle after.shelf.faults (Ok loaded)) where
+      taken_own : LoadsChanges (entries_of file.tree) file.content.items before.shelf.files name middle after.shelf.faults (Ok loaded)
+      taken_own = subst (λ octets. LoadsChanges (entries_of file.tree) octets before.shelf.files name middle after.shelf.faults (Ok loaded)) same taken
 
-      good_own : IsLoadedFrom (HoldsIn files) serving.data_file serving.changes file.content.items (left_of loaded)
+      good_own : IsLoadedFrom (HoldsIn before.shelf.files) serving.data_file serving.changes file.content.items (left_of loaded)
       good_own =
-          subst (λ changes. IsLoadedFrom (HoldsIn files) serving.data_file changes file.content.items (left_of loaded)) (sym named)
-          (changes_loaded files serving.data_file count middle last name file loaded loads taken_own)
+          subst (λ changes. IsLoadedFrom (HoldsIn before.shelf.files) serving.data_file changes file.content.items (left_of loaded)) (sym named)
+          (changes_loaded before.shelf.files serving.data_file before.shelf.faults middle after.shelf.faults name file loaded loads taken_own)
 
-      stays : last ≡ count
-      stays = changes_stay files name middle last (entries_of file.tree) file.content.items loaded taken_own ∙ file_stays files serving.data_file count middle file loads
+      stays : after.shelf.faults ≡ before.shelf.faults
+      stays =
+          changes_stay before.shelf.files name middle after.shelf.faults (entries_of file.tree) file.content.items loaded taken_own
+          ∙ file_stays before.shelf.files serving.data_file before.shelf.faults middle file loads
 
       -- and the store is ready
-      pub Readies-stored : (number : ℕ) (done : Unit {0}) (after : Linked) → number ≡ whole_of loaded.applied → Prepares lent number (Ok done) opened after → Readies serving files count last before (Ok loaded) after
+      pub Readies-stored : (number : ℕ) (done : Unit {0}) → number ≡ whole_of loaded.applied → Prepares lent number (Ok done) opened after.link → Readies serving before (Ok loaded) after
       unfolding Readies
-      Readies-stored number done after is prepares =
-          let P : List ℕ → Type 0 = λ octets. Prepares octets (whole_of loaded.applied) (Ok done) opened after in
-          let Q : ℕ → Type 0 = λ count. Prepares lent count (Ok done) opened after in
+      Readies-stored number done is prepares =
+          let P : List ℕ → Type 0 = λ octets. Prepares octets (whole_of loaded.applied) (Ok done) opened after.link in
+          let Q : ℕ → Type 0 = λ count. Prepares lent count (Ok done) opened after.link in
           let own = subst P same (subst Q is prepares) in (
             record {
               content = file.content.items;
               good = good_own;
-              ready = subst (λ changes. IsPrepared (serve_asked serving file.content.items (left_of loaded)) changes before after) (sym named)
-                  (record { cut = own.0; is_cut = record { opened = opened; opens = opens_own; cuts = own.1 }; heads = own.2 });
+              ready = subst (λ changes. IsPrepared (serve_asked serving file.content.items (left_of loaded)) changes before.link after.link) (sym named)
+                  (record { cut = own.0; is_cut = record { opened = opened; opens = opens_own opened opens; cuts = own.1 }; heads = own.2 });
             },
             stays,
           )
 
       -- or one of the other calls failed
-      pub Readies-unstored : (number : ℕ) (after : Linked) (fault : NextFault) → number ≡ whole_of loaded.applied → Prepares lent number (Err fault) opened after → Readies serving files count last before (Err (unready.Store fault)) after
+      pub Readies-unstored : (number : ℕ) (fault : NextFault) → number ≡ whole_of loaded.applied → Prepares lent number (Err fault) opened after.link → Readies serving before (Err (unready.Store fault)) after
       unfolding Readies
-      Readies-unstored number after fault is prepares =
-          let P : List ℕ → Type 0 = λ octets. Prepares octets (whole_of loaded.applied) (Err fault) opened after in
-          let Q : ℕ → Type 0 = λ count. Prepares lent count (Err fault) opened after in
+      Readies-unstored number fault is prepares =
+          let P : List ℕ → Type 0 = λ octets. Prepares octets (whole_of loaded.applied) (Err fault) opened after.link in
+          let Q : ℕ → Type 0 = λ count. Prepares lent count (Err fault) opened after.link in
           by (subst P same (subst Q is prepares))
         where
-          by : Prepares file.content.items (whole_of loaded.applied) (Err fault) opened after → Readies serving files count last before (Err (unready.Store fault)) after
-          by (inl cuts) = (record { call = CutStore; content = file.content.items; left = left_of loaded; good = good_own; fails = (opened, opens_own, cuts) }, stays)
+          by : Prepares file.content.items (whole_of loaded.applied) (Err fault) opened after.link → Readies serving before (Err (unready.Store fault)) after
+          by (inl cuts) =
+              (record { call = CutStore; content = file.content.items; left = left_of loaded; good = good_own; fails = (opened, opens_own opened opens, cuts) }, stays)
           by (inr head) =
-              let cut : IsCut (serve_asked serving file.content.items (left_of loaded)) before head.0 = record { opened = opened; opens = opens_own; cuts = head.1 } in
+              let cut : IsCut (serve_asked serving file.content.items (left_of loaded)) before.link head.0 = record { opened = opened; opens = opens_own opened opens; cuts = head.1 } in
               (record { call = StoreHead; content = file.content.items; left = left_of loaded; good = good_own; fails = (head.0, cut, head.2, head.3) }, stays)
 
 -- the store was cut, and needs a head

@@ -4,6 +4,7 @@
 use Rattle.std.specs.Prelude.{◌≡◌, ℕ, List, Option}
 use Rattle.command_files.specs.plain_values.Counts.{Rose}
 use Rattle.command_files.specs.wire_io.declared.journal.Item.{Item}
+use Rattle.command_files.specs.wire_io.Files.{Files}
 use Rattle.command_files.specs.wire_io.link.Plan.{Plan}
 use Rattle.command_files.specs.Outside.{Shelved, Written, shelved}
 
@@ -46,3 +47,11 @@ beside shelf out link = record { shelf = shelf; out = out; link = link }
 -- the same while its shelf had counted so many faults
 abbrev pub at_count : ℕ → Outside → Outside
 at_count count outside = beside (shelved outside.shelf.files count) outside.out outside.link
+
+-- the same with these files on its shelf
+abbrev pub with_files : Option Files → Outside → Outside
+with_files files outside = beside (shelved files outside.shelf.faults) outside.out outside.link
+
+-- the same while its link was this one
+abbrev pub at_link : Linked → Outside → Outside
+at_link link outside = beside outside.shelf outside.out link

@@ -22,6 +22,8 @@ use Rattle.acl_program.specs.serve.Storing.{ServeAsked, StoreCall, OpensStore, C
 use Rattle.acl_program.specs.serve.Serving.{ServeEnd, NotStored, NotBegun, NotOpened, NotServed, LoopEnded, ServesUntil, LinkListens, changes_read, ended_text, loop_status}
 use Rattle.acl_program.specs.Outcomes.{Served, settled}
 use Rattle.acl_program.specs.program.Playing.{Ends}
+use Rattle.acl_program.specs.Troubles.{outcome_of}
+use Rattle.command_files.specs.Outside.{Written}
 
 -- serving came to an end: its text was put, and the link did what it says
 unfoldable pub Listens : ServeAsked → Outside → Status → Outside → Type 0
@@ -86,12 +88,16 @@ LeavesLink changes (trouble.BadChanges line cause) before after = OpensStore cha
 LeavesLink changes trouble.NoMemory before after = OpensAtMost changes before after
 
 -- what is to be served is ready, or why not: a file wasn't taken, or a call of the store failed
-unfoldable pub Readies : ServingView → Option Files → ℕ → ℕ → Linked → Result Loaded Unready → Linked → Type 0
-Readies serving files count last before (Ok loaded) after = IsReadyToServe serving files (left_of loaded) before after × (last ≡ count)
-Readies serving files count last before (Err (unready.Files why)) after =
-    LoadsTree files serving.data_file serving.changes count last (Err why) × LeavesLink serving.changes why before after
-Readies serving files count last before (Err (unready.Store fault)) after = FailsToStore serving files fault before after × (last ≡ count)
+unfoldable pub Readies : ServingView → Outside → Result Loaded Unready → Outside → Type 0
+Readies serving before (Ok loaded) after =
+    IsReadyToServe serving before.shelf.files (left_of loaded) before.link after.link × (after.shelf.faults ≡ before.shelf.faults)
+Readies serving before (Err (unready.Files why)) after =
+    LoadsTree before.shelf.files serving.data_file serving.changes before.shelf.faults after.shelf.faults (Err why)
+    × LeavesLink serving.changes why before.link after.link
+Readies serving before (Err (unready.Store fault)) after =
+    FailsToStore serving before.shelf.files fault before.link after.link × (after.shelf.faults ≡ before.shelf.faults)
 
--- the same of what the program stands in
-abbrev pub MakesReady : ServingView → Outside → Result Loaded Unready → Outside → Type 0
-MakesReady serving before result after = Readies serving before.shelf.files before.shelf.faults after.shelf.faults before.link result after.link
+-- why nothing was ready was to be put, and the program was to end so
+abbrev pub EndsUnready : Unready → Written → Status → Written → Type 0
+EndsUnready (unready.Files why) before status after = Ends (outcome_of why) before status after
+EndsUnready (unready.Store fault) before status after = (asked : ServeAsked) (call : StoreCall) → Ends (Served asked (NotStored call fault)) before status after

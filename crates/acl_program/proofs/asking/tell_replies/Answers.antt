@@ -1,13 +1,11 @@
 use Rattle.std.proofs.Common.{refl, sym}
 use Rattle.command_words.specs.command.Command.{Ask}
-use Rattle.command_files.specs.Outside.{written}
-use Rattle.acl_program.specs.program.Outside.{linked}
 use Rattle.acl_program.proofs.program.PerformLemmas.{Performs-after, Performs-refused}
 use Rattle.acl_program.proofs.asking.tell_replies.Goals as goal
 
 -- the data file was loaded
 pub returns-in-Ok-clause-performs : goal.returns-in-Ok-clause-performs
-returns-in-Ok-clause-performs g c = rw (sym c.outside.view_is) (Performs-after _ _ _ _ _ _ (written _ _) (linked _ _ _ _ _ _) _ _ _ c.in-Ok.ensures.kept c.in-Ok.ensures.exact (c.ask_over.ensures.performs _ _))
+returns-in-Ok-clause-performs g c = rw (sym c.outside.view_is) (Performs-after _ _ _ _ _ _ _ _ c.in-Ok.ensures.kept c.in-Ok.ensures.exact (c.ask_over.ensures.performs _ _))
 
 -- it wasn't
 pub returns-in-Err-clause-performs : goal.returns-in-Err-clause-performs

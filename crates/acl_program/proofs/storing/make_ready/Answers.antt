@@ -1,4 +1,4 @@
-use Rattle.std.proofs.Common.{sym, ap}
+use Rattle.std.proofs.Common.{refl, sym, ap}
 use Rattle.std.specs.Prelude.{option_copied}
 use Rattle.command_words.specs.command.Command.{serving_view}
 use Rattle.command_files.proofs.Theorems.{LoadsFile-good}
@@ -11,13 +11,13 @@ open_store-requires g c = record { good = LoadsFile-good _ _ _ _ _ c.in-Ok.ensur
 
 -- the data file was loaded, and a file of changes is named
 pub returns-in-Some-clause-readies : goal.returns-in-Some-clause-readies
-returns-in-Some-clause-readies g c = rw (sym c.outside.view_is) (Readies-after (serving_view c.args.asked.now) _ _ _ _ _ _ _ _ _ c.in-Ok.ensures.kept c.in-Ok.ensures.exact
+returns-in-Some-clause-readies g c = rw (sym c.outside.view_is) (Readies-after (serving_view c.args.asked.now) _ _ _ _ _ _ c.in-Ok.ensures.kept c.in-Ok.ensures.exact
     (λ loads. c.open_store.ensures.readies (serving_view c.args.asked.now) _ (ap option_copied c.in-Some.is) loads))
 
 -- and none is
 pub returns-in-None-clause-readies : goal.returns-in-None-clause-readies
-returns-in-None-clause-readies g c = rw (sym c.outside.view_is) (Readies-alone (serving_view c.args.asked.now) _ _ _ _ _ _ (ap option_copied c.in-None.is) c.in-Ok.ensures.exact c.unchanged.ensures.exact)
+returns-in-None-clause-readies g c = rw (sym c.outside.view_is) (Readies-alone (serving_view c.args.asked.now) _ _ _ _ (ap option_copied c.in-None.is) c.in-Ok.ensures.exact c.unchanged.ensures.exact refl)
 
 -- it wasn't loaded
 pub returns-in-Err-clause-readies : goal.returns-in-Err-clause-readies
-returns-in-Err-clause-readies g c = rw (sym c.outside.view_is) (Readies-unread (serving_view c.args.asked.now) _ _ _ _ _ c.in-Err.ensures.exact)
+returns-in-Err-clause-readies g c = rw (sym c.outside.view_is) (Readies-unread (serving_view c.args.asked.now) _ _ _ c.in-Err.ensures.exact refl)

@@ -1,4 +1,4 @@
-use Rattle.std.proofs.Common.{sym}
+use Rattle.std.proofs.Common.{refl, sym}
 use Rattle.acl_program.specs.program.Outside.{linked}
 use Rattle.acl_program.proofs.storing.ReadyLemmas.{Readies-unopened}
 use Rattle.command_files.proofs.wire_io_proofs.Theorems.{RefusalCause-never_falls}
@@ -11,5 +11,5 @@ returns-in-Ok-clause-readies g c = rw (sym c.outside.view_is) (λ serving count 
 
 -- it failed to
 pub returns-in-Err-clause-readies : goal.returns-in-Err-clause-readies
-returns-in-Err-clause-readies g c = rw (sym c.outside.view_is) (λ serving count named loads. Readies-unopened serving _ count _ _ _ named loads (linked _ _ _ _ _ _) (linked _ _ _ _ _ _) _
-    (record { tells = c.in-Err.ensures.tells; cause = c.in-Err.ensures.cause; stays = c.in-Err.ensures.faults; plan = c.in-Err.ensures.plan; lost = c.in-Err.ensures.lost; refusals = RefusalCause-never_falls _ _ _ c.in-Err.ensures.refusals }))
+returns-in-Err-clause-readies g c = rw (sym c.outside.view_is) (λ serving count named loads. Readies-unopened serving _ _ _ _ _ named loads _
+    (record { tells = c.in-Err.ensures.tells; cause = c.in-Err.ensures.cause; stays = c.in-Err.ensures.faults; plan = c.in-Err.ensures.plan; lost = c.in-Err.ensures.lost; refusals = RefusalCause-never_falls _ _ _ c.in-Err.ensures.refusals }) refl)
