@@ -1,5 +1,5 @@
 -- What is heard of octets that were read, and what is kept of them.
-use Rattle.std.specs.Prelude.{◌≡◌, ℕ}
+use Rattle.std.specs.Prelude.{◌≡◌, ℕ, Bool, true}
 use Rattle.fair_pieces.specs.Keeping.{KeptState}
 use Rattle.wire_io.specs.declared.answers.Heard.{Heard}
 use Rattle.wire_io.specs.declared.answers.Heard.TheVariants as heard
@@ -22,3 +22,12 @@ KeepsCut behind (heard.Ended conn) kept = Unit {0}
 KeepsCut behind (heard.Opened conn) kept = ⊥
 KeepsCut behind (heard.Ready conn) kept = ⊥
 KeepsCut behind heard.Stop kept = ⊥
+
+-- where its end is heard it has ended, and otherwise whether it has is as it was
+abbrev pub EndsAsSaid : Heard → Bool → Bool → Type 0
+EndsAsSaid (heard.Ended conn) old new = new ≡ true
+EndsAsSaid (heard.Bytes conn count) old new = new ≡ old
+EndsAsSaid heard.Idle old new = new ≡ old
+EndsAsSaid (heard.Opened conn) old new = ⊥
+EndsAsSaid (heard.Ready conn) old new = ⊥
+EndsAsSaid heard.Stop old new = ⊥

@@ -4,4 +4,6 @@ pub mod SystemLink
 pub mod Turns
 -- what the crate's inside promises itself
 pub mod Cutting
+pub mod Numbers
+pub mod Offering
 pub mod Places

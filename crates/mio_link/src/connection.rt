@@ -1,10 +1,11 @@
 //! One connection of the system.
 
-ghost use Rattle.std.specs.Prelude.{ℕ, ◌<◌, ◌≤◌, length, IfSome};
+ghost use Rattle.std.specs.Prelude.{◌≡◌, false, ℕ, ◌<◌, ◌≤◌, length, IfSome};
 ghost use Rattle.fair_pieces.specs.Cuts.{cut_at};
 ghost use Rattle.fair_pieces.specs.Keeping.{behind_cut};
 ghost use Rattle.wire_io.specs.Answers.{HeardFits, TookFits};
-ghost use Rattle.mio_link.specs.Cutting.{HearsCut, KeepsCut};
+ghost use Rattle.mio_link.specs.Cutting.{HearsCut, KeepsCut, EndsAsSaid};
+ghost use Rattle.mio_link.specs.Offering.{Puts};
 
 use crate::moment::Moment;
 use fair_pieces::Kept;
@@ -16,9 +17,9 @@ use wire_io::{Heard, Took};
 
 /// A connection, and what the system's reports and its own calls last said of it.
 #[derive(Drop)]
-pub(crate) struct Connection {
+pub(crate) struct Connection<S = TcpStream> {
     number: u32,
-    stream: TcpStream,
+    stream: S,
     // what was read of its octets and not given yet
     kept: Kept,
     // when octets of it were last read, or on hold taken, or it was put on hold or released
@@ -42,7 +43,9 @@ pub(crate) struct Connection {
 impl Connection {
     /// A connection that was just accepted, and isn't opened yet. It may be written to; a report says
     /// when it may be read.
-    pub(crate) fn new(alloc: Global, number: u32, stream: TcpStream, now: Moment) -> Connection {
+    pub(crate) fn new(alloc: Global, number: u32, stream: TcpStream, now: Moment) -> Connection
+        ensures { result.number ≡ number }
+    {
         Connection {
             number,
             stream,
@@ -60,7 +63,9 @@ impl Connection {
         }
     }
 
-    pub(crate) fn number(&self) -> u32 {
+    pub(crate) fn number(&self) -> u32
+        ensures { result ≡ self.now.number }
+    {
         self.number
     }
 
@@ -70,7 +75,9 @@ impl Connection {
     }
 
     /// Opens it, and gives its number.
-    pub(crate) fn open(&mut self) -> u32 {
+    pub(crate) fn open(&mut self) -> u32
+        ensures { result ≡ self.old.number }
+    {
         self.is_newcomer = false;
         self.number
     }
@@ -221,6 +228,7 @@ impl Connection {
     fn take(&mut self, now: Moment, octets: &[u8]) -> Heard
         ensures cut { HearsCut (cut_at self.old.kept.left octets.now).given result }
         ensures kept { KeepsCut (behind_cut self.old.kept.left octets.now) result self.new.kept }
+        ensures ended { EndsAsSaid result self.old.is_ended self.new.is_ended }
         ensures fits { (len : ℕ) → length octets.now ≤ len → HeardFits len result }
     {
         self.last = now;
@@ -243,7 +251,9 @@ impl Connection {
 
     /// Lets it go, and says whether it waited for the disk: then it is offered octets again, whatever the
     /// system took of it before.
-    pub(crate) fn let_go(&mut self) -> bool {
+    pub(crate) fn let_go(&mut self) -> bool
+        ensures { self.new.is_put_off ≡ false }
+    {
         if !self.is_put_off {
             return false;
         }
@@ -251,12 +261,15 @@ impl Connection {
         self.may_write = true;
         true
     }
+}
 
+impl<S: Write> Connection<S> {
     /// Offers octets. Where the system took none before, it isn't asked again until it reports that it
     /// may take some. A reset, a broken pipe and every other refusal that doesn't pass is a lost
     /// connection.
     pub(crate) fn write(&mut self, now: Moment, bytes: &[u8]) -> Took
         requires { 0 < length bytes.now }
+        ensures puts { Puts (S.contents self.old.stream) (S.contents self.new.stream) bytes.now result }
         ensures fits { TookFits (length bytes.now) result }
     {
         if self.is_lost {
@@ -271,6 +284,7 @@ impl Connection {
     /// Offers octets to the system.
     fn offer(&mut self, now: Moment, bytes: &[u8]) -> Took
         requires { 0 < length bytes.now }
+        ensures puts { Puts (S.contents self.old.stream) (S.contents self.new.stream) bytes.now result }
         ensures fits { TookFits (length bytes.now) result }
     {
         match self.stream.write(bytes) {

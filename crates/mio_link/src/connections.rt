@@ -1,7 +1,8 @@
 //! The connections of the system, each at a place.
 
-ghost use Rattle.std.specs.Prelude.{ℕ, ◌<◌, length, IfSome};
+ghost use Rattle.std.specs.Prelude.{◌≡◌, ◌≢◌, ℕ, ◌<◌, length, vec_len, true, false, Some, IfSome, IfNone};
 ghost use Rattle.wire_io.specs.Answers.{HeardFits, TookFits};
+ghost use Rattle.mio_link.specs.Numbers.{stands, number_at, IsEnd, Ends, is_put_off, is_put_off_at, AreLetGo};
 
 use crate::connection::Connection;
 use crate::moment::Moment;
@@ -36,12 +37,16 @@ impl Connections {
     }
 
     /// A free place.
-    pub(crate) fn free(&self) -> Option<usize> {
+    pub(crate) fn free(&self) -> Option<usize>
+        ensures { IfSome result (λ place. place < vec_len self.now.places) }
+    {
         self.places.iter().position(|place| place.is_none())
     }
 
     /// Puts the connection at the place.
-    pub(crate) fn put(&mut self, place: usize, number: u32, connection: Connection) {
+    pub(crate) fn put(&mut self, place: usize, number: u32, connection: Connection)
+        ensures { place < vec_len self.old.places → number_at self.new place ≡ Some connection.number }
+    {
         if let Some(free) = self.places.get_mut(place) {
             *free = Some(connection);
         }
@@ -51,7 +56,9 @@ impl Connections {
     }
 
     /// The place of the connection of the number: first where a number like it was put last.
-    fn place_of(&self, number: u32) -> Option<usize> {
+    fn place_of(&self, number: u32) -> Option<usize>
+        ensures { IfSome result (λ place. number_at self.now place ≡ Some number) }
+    {
         let hint = match self.hints.get(number as usize % HINTS) {
             Some(place) => *place,
             None => 0,
@@ -64,7 +71,9 @@ impl Connections {
             .position(|place| has_number(place, number))
     }
 
-    fn is_at(&self, place: usize, number: u32) -> bool {
+    fn is_at(&self, place: usize, number: u32) -> bool
+        ensures { result ≡ true → number_at self.now place ≡ Some number }
+    {
         match self.places.get(place) {
             Some(found) => has_number(found, number),
             None => false,
@@ -72,13 +81,17 @@ impl Connections {
     }
 
     /// The connection of the number.
-    fn of(&mut self, number: u32) -> Option<&mut Connection> {
+    fn of(&mut self, number: u32) -> Option<&mut Connection>
+        ensures { IfSome result (λ connection. connection.now.number ≡ number) }
+    {
         let place = self.place_of(number)?;
         self.at(place)
     }
 
     /// The connection at the place.
-    fn at(&mut self, place: usize) -> Option<&mut Connection> {
+    fn at(&mut self, place: usize) -> Option<&mut Connection>
+        ensures { IfSome result (λ connection. number_at self.old place ≡ Some connection.now.number) }
+    {
         match self.places.get_mut(place) {
             Some(found) => found.as_mut(),
             None => None,
@@ -91,7 +104,9 @@ impl Connections {
         number: u32,
         is_on_hold: bool,
         now: Moment,
-    ) -> Option<usize> {
+    ) -> Option<usize>
+        ensures found { IfSome result (λ place. number_at self.old place ≡ Some number) }
+    {
         let place = self.place_of(number)?;
         if let Some(connection) = self.at(place) {
             connection.set_on_hold(is_on_hold, now);
@@ -100,7 +115,9 @@ impl Connections {
     }
 
     /// Ends the connection of the number, and says whether there was one.
-    pub(crate) fn end(&mut self, number: u32) -> bool {
+    pub(crate) fn end(&mut self, number: u32) -> bool
+        ensures { Ends number self.old self.new }
+    {
         let Some(place) = self.place_of(number) else {
             return false;
         };
@@ -111,7 +128,9 @@ impl Connections {
     }
 
     /// Opens the connection at the place, and gives its number.
-    pub(crate) fn open(&mut self, place: usize) -> Option<u32> {
+    pub(crate) fn open(&mut self, place: usize) -> Option<u32>
+        ensures { IfSome result (λ number. number_at self.old place ≡ Some number) }
+    {
         match self.at(place) {
             Some(connection) => Some(connection.open()),
             None => None,
@@ -137,15 +156,17 @@ impl Connections {
     /// Ends the connection that was silent longest, of those to which nothing is due, and says so; None
     /// where there is none.
     pub(crate) fn end_most_silent(&mut self) -> Option<Heard>
+        ensures ended { IfSome result IsEnd }
+        ensures kept { IfNone result (self.new.places.items ≡ self.old.places.items) }
         ensures fits { (len : ℕ) → IfSome result (HeardFits len) }
     {
         let place = self.most_silent()?;
-        match self.at(place) {
-            Some(connection) => {
+        match self.places.get_mut(place) {
+            Some(Some(connection)) => {
                 connection.set_ended();
                 Some(Heard::Ended(connection.number()))
             }
-            None => None,
+            _ => None,
         }
     }
 
@@ -169,13 +190,24 @@ impl Connections {
     }
 
     /// Lets the connections go that wait for the disk, and adds their places.
-    pub(crate) fn let_go(&mut self, places: &mut Ready) {
+    pub(crate) fn let_go(&mut self, places: &mut Ready)
+        ensures { AreLetGo self.new }
+    {
         for place in 0..PLACES {
-            if let Some(connection) = self.at(place) {
-                if connection.let_go() {
-                    places.add(place);
-                }
+            if self.let_go_at(place) {
+                places.add(place);
             }
+        }
+    }
+
+    /// Lets the connection at the place go, and says whether it waited for the disk.
+    fn let_go_at(&mut self, place: usize) -> bool
+        ensures exact { is_put_off_at self.new place ≡ false }
+        ensures others { (other : ℕ) → other ≢ place → is_put_off_at self.new other ≡ is_put_off_at self.old other }
+    {
+        match self.places.get_mut(place) {
+            Some(found) => let_go(found),
+            None => false,
         }
     }
 
@@ -219,8 +251,20 @@ impl Connections {
     }
 }
 
+/// Lets the connection at the place go, and says whether it waited for the disk.
+fn let_go(place: &mut Option<Connection>) -> bool
+    ensures { is_put_off place.new ≡ false }
+{
+    match place {
+        Some(connection) => connection.let_go(),
+        None => false,
+    }
+}
+
 /// Whether the connection of the number is at the place.
-fn has_number(place: &Option<Connection>, number: u32) -> bool {
+fn has_number(place: &Option<Connection>, number: u32) -> bool
+    ensures { result ≡ stands number place.now }
+{
     match place {
         Some(connection) => connection.number() == number,
         None => false,

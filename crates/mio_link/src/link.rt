@@ -1,13 +1,13 @@
 //! The link over the system's sockets, and a file of the system.
 
-ghost use Rattle.std.specs.Prelude.{◌≡◌, ◌<◌, length, true, Err, IfOk, OnOk, OnErr};
+ghost use Rattle.std.specs.Prelude.{◌≡◌, ◌≢◌, ◌<◌, length, true, false, Err, IfOk, OnOk, OnErr};
 ghost use Rattle.plain_values.specs.Counts.{NeverFalls};
 ghost use Rattle.wire_io.specs.declared.journal.Item.{Item};
 ghost use Rattle.wire_io.specs.Answers.{HeardFits, TookFits, LinkCause, WriteCause, RefusalCause, WriteRefusal, NoteRefusal};
 ghost use Rattle.wire_io.specs.Playing.{NextPlays};
 ghost use Rattle.wire_io.specs.link.Telling.{OpenTells, StoreOpenTells, NextTells, TookTells, NoteTells};
 ghost use Rattle.mio_link.specs.Store.{awaits_disk};
-ghost use Rattle.mio_link.specs.SystemLink.{link_faults, store_faults, lost_connections, refused_calls, has_store, waits_for_disk, StoreFailed, StoreStays};
+ghost use Rattle.mio_link.specs.SystemLink.{link_faults, store_faults, lost_connections, refused_calls, has_store, waits_for_disk, times_put_off, IsPutOffOnce, NoneWaits, HangsUp, StoreFailed, StoreStays};
 
 use crate::sockets::Sockets;
 use crate::store::Store;
@@ -41,6 +41,7 @@ impl<R: Net + Drop> MioLink<R> {
     /// A link over the runtime, which isn't open yet, had no fault and refused nothing. Its tables are made here.
     pub fn new(rt: R, alloc: Global) -> Result<MioLink<R>, NoMemory>
         ensures fresh { IfOk result (λ link. (link_faults link ≡ 0) × (store_faults link ≡ 0) × (lost_connections link ≡ 0) × (refused_calls link ≡ 0)) }
+        ensures store { IfOk result (λ link. (has_store link ≡ false) × (waits_for_disk link ≡ false)) }
     {
         Ok(MioLink {
             rt,
@@ -104,6 +105,7 @@ impl<R: Net + Clock + Files<File = File>> Link for MioLink<R> {
         ensures tells { OpenTells None address.now sessions result None }
         ensures cause { LinkCause None (link_faults self.old) (link_faults self.new) result }
         ensures refusals { RefusalCause (refused_calls self.old) (refused_calls self.new) result }
+        ensures refused { result ≢ Err NextFault.NoMemory → refused_calls self.new ≡ refused_calls self.old }
         ensures store_faults { store_faults self.new ≡ store_faults self.old }
         ensures lost { NeverFalls (lost_connections self.old) (lost_connections self.new) }
         ensures store { StoreStays self.old self.new }
@@ -127,13 +129,14 @@ impl<R: Net + Clock + Files<File = File>> Link for MioLink<R> {
     /// of the store.
     #[tactic(auto, unfolding(wire_io::specs::link::Telling::StoreOpenTells, wire_io::specs::Answers::LinkCause, wire_io::specs::Answers::RefusalCause, wire_io::specs::Answers::IsPlanned))]
     fn open_store(&mut self, name: &str) -> Result<(), NextFault>
-        ensures ok { OnOk result (has_store self.new ≡ true) }
+        ensures ok { OnOk result ((has_store self.new ≡ true) × (waits_for_disk self.new ≡ false)) }
         ensures fault { result ≡ Err NextFault.Failed → StoreFailed self.new }
         ensures memory { result ≡ Err NextFault.NoMemory → StoreStays self.old self.new }
         ensures failed { StoreFailed self.old → result ≡ Err NextFault.Failed }
         ensures tells { StoreOpenTells None name.now result None }
         ensures cause { LinkCause None (store_faults self.old) (store_faults self.new) result }
         ensures refusals { RefusalCause (refused_calls self.old) (refused_calls self.new) result }
+        ensures refused { result ≢ Err NextFault.NoMemory → refused_calls self.new ≡ refused_calls self.old }
         ensures faults { link_faults self.new ≡ link_faults self.old }
         ensures lost { NeverFalls (lost_connections self.old) (lost_connections self.new) }
     {
@@ -161,6 +164,7 @@ impl<R: Net + Clock + Files<File = File>> Link for MioLink<R> {
         ensures tells { NoteTells None (Item.StoreCut length) result None }
         ensures cause { LinkCause None (store_faults self.old) (store_faults self.new) result }
         ensures refusals { RefusalCause (refused_calls self.old) (refused_calls self.new) result }
+        ensures refused { result ≢ Err NextFault.NoMemory → refused_calls self.new ≡ refused_calls self.old }
         ensures faults { link_faults self.new ≡ link_faults self.old }
         ensures lost { NeverFalls (lost_connections self.old) (lost_connections self.new) }
     {
@@ -180,11 +184,13 @@ impl<R: Net + Clock + Files<File = File>> Link for MioLink<R> {
     fn store(&mut self, octets: &[u8]) -> Result<(), NextFault>
         ensures ok { OnOk result (has_store self.new ≡ true) }
         ensures waits { OnOk result (waits_for_disk self.new ≡ true) }
+        ensures kept { OnOk result (times_put_off self.new ≡ times_put_off self.old) }
         ensures err { OnErr result (StoreFailed self.new) }
         ensures failed { StoreFailed self.old → result ≡ Err NextFault.Failed }
         ensures tells { NoteTells None (Item.Stored octets.now) result None }
         ensures cause { LinkCause None (store_faults self.old) (store_faults self.new) result }
         ensures refusals { RefusalCause (refused_calls self.old) (refused_calls self.new) result }
+        ensures refused { result ≢ Err NextFault.NoMemory → refused_calls self.new ≡ refused_calls self.old }
         ensures faults { link_faults self.new ≡ link_faults self.old }
         ensures lost { NeverFalls (lost_connections self.old) (lost_connections self.new) }
     {
@@ -204,10 +210,13 @@ impl<R: Net + Clock + Files<File = File>> Link for MioLink<R> {
     fn sync_store(&mut self) -> Result<(), NextFault>
         ensures ok { OnOk result (has_store self.new ≡ has_store self.old) }
         ensures waits { OnOk result (waits_for_disk self.new ≡ true → waits_for_disk self.old ≡ true) }
+        ensures let_go { OnOk result (waits_for_disk self.old ≡ true → waits_for_disk self.new ≡ false → NoneWaits self.new) }
+        ensures put_off { OnOk result (waits_for_disk self.new ≡ true → IsPutOffOnce self.old self.new) }
         ensures err { OnErr result (StoreFailed self.new) }
         ensures failed { StoreFailed self.old → result ≡ Err NextFault.Failed }
         ensures cause { LinkCause None (store_faults self.old) (store_faults self.new) result }
         ensures refusals { RefusalCause (refused_calls self.old) (refused_calls self.new) result }
+        ensures refused { result ≢ Err NextFault.NoMemory → refused_calls self.new ≡ refused_calls self.old }
         ensures faults { link_faults self.new ≡ link_faults self.old }
         ensures lost { NeverFalls (lost_connections self.old) (lost_connections self.new) }
     {
@@ -236,6 +245,7 @@ impl<R: Net + Clock + Files<File = File>> Link for MioLink<R> {
         ensures plays { NextPlays None None buf.new result None }
         ensures cause { LinkCause None (link_faults self.old) (link_faults self.new) result }
         ensures refusals { RefusalCause (refused_calls self.old) (refused_calls self.new) result }
+        ensures refused { result ≢ Err NextFault.NoMemory → refused_calls self.new ≡ refused_calls self.old }
         ensures store_faults { store_faults self.new ≡ store_faults self.old }
         ensures lost { NeverFalls (lost_connections self.old) (lost_connections self.new) }
         ensures store { StoreStays self.old self.new }
@@ -268,6 +278,8 @@ impl<R: Net + Clock + Files<File = File>> Link for MioLink<R> {
         ensures tells { TookTells None conn bytes.now result None }
         ensures cause { WriteCause None (lost_connections self.old) (lost_connections self.new) result }
         ensures refusals { WriteRefusal (refused_calls self.old) (refused_calls self.new) result }
+        ensures gone { result ≢ Took.Gone → lost_connections self.new ≡ lost_connections self.old }
+        ensures refused { result ≢ Took.NoMemory → refused_calls self.new ≡ refused_calls self.old }
         ensures faults { link_faults self.new ≡ link_faults self.old }
         ensures store_faults { store_faults self.new ≡ store_faults self.old }
         ensures store { StoreStays self.old self.new }
@@ -309,6 +321,7 @@ impl<R: Net + Clock + Files<File = File>> Link for MioLink<R> {
 
     #[tactic(auto, unfolding(wire_io::specs::link::Telling::NoteTells, wire_io::specs::Answers::NoteRefusal))]
     fn hang_up(&mut self, conn: u32) -> Result<(), NoMemory>
+        ensures ended { HangsUp conn self.old self.new }
         ensures tells { NoteTells None (Item.HungUp conn) result None }
         ensures refusals { NoteRefusal (refused_calls self.old) (refused_calls self.new) result }
         ensures faults { link_faults self.new ≡ link_faults self.old }

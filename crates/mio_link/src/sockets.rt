@@ -3,6 +3,7 @@
 
 ghost use Rattle.std.specs.Prelude.{◌≡◌, ℕ, ◌<◌, length, IfOk, IfSome};
 ghost use Rattle.wire_io.specs.Answers.{HeardFits, TookFits};
+ghost use Rattle.mio_link.specs.Numbers.{number_at, AreLetGo, Ends, IsOpenedAs, TakesNext};
 
 use crate::connection::Connection;
 use crate::connections::{Connections, PLACES};
@@ -199,6 +200,7 @@ impl Sockets {
     /// place, the connection that was silent longest is ended first, if there is one to which nothing is
     /// due; the other is opened once a place is free.
     fn accept(&mut self) -> Option<Heard>
+        ensures number { IfSome result (TakesNext self.old.number self.new.number) }
         ensures fits { (len : ℕ) → IfSome result (HeardFits len) }
     {
         let number = self.number?;
@@ -228,6 +230,8 @@ impl Sockets {
 
     /// Opens the connection at the place.
     fn open_at(&mut self, place: usize) -> Option<Heard>
+        ensures opened { IfSome result (IsOpenedAs (number_at self.old.connections place)) }
+        ensures number { self.new.number ≡ self.old.number }
         ensures fits { (len : ℕ) → IfSome result (HeardFits len) }
     {
         match self.connections.open(place) {
@@ -293,7 +297,9 @@ impl Sockets {
     }
 
     /// Has the listening socket asked where connections may wait.
-    fn listen(&mut self) {
+    fn listen(&mut self)
+        ensures { self.new.connections ≡ self.old.connections }
+    {
         let may_accept = match &self.server {
             Some(server) => server.may_accept(),
             None => false,
@@ -321,7 +327,9 @@ impl Sockets {
 
     /// Lets the connections go for which octets were put off: those on hold are told first that they may take
     /// some.
-    pub(crate) fn let_go(&mut self) {
+    pub(crate) fn let_go(&mut self)
+        ensures { AreLetGo self.new.connections }
+    {
         self.connections.let_go(&mut self.untold);
     }
 
@@ -333,7 +341,9 @@ impl Sockets {
     }
 
     /// Ends the connection.
-    pub(crate) fn hang_up(&mut self, number: u32) {
+    pub(crate) fn hang_up(&mut self, number: u32)
+        ensures { Ends number self.old.connections self.new.connections }
+    {
         if self.connections.end(number) {
             self.ended = self.ended.saturating_add(1);
             self.listen();

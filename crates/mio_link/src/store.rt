@@ -1,7 +1,7 @@
 //! The file to which octets are appended that have to last.
 
-ghost use Rattle.std.specs.Prelude.{◌≡◌, ◌≢◌, true, false, Err, IfSome, OnErr, OnOk};
-ghost use Rattle.mio_link.specs.Store.{is_open, awaits_disk};
+ghost use Rattle.std.specs.Prelude.{◌≡◌, ◌≢◌, ◌+◌, ◌≤◌, true, false, Err, IfSome, OnErr, OnOk};
+ghost use Rattle.mio_link.specs.Store.{is_open, awaits_disk, put_offs, GrowsBy};
 
 use std::fs::{File, OpenOptions};
 use std::io::{ErrorKind, Write};
@@ -25,13 +25,13 @@ const MOST_PUT_OFF: u32 = 256;
 /// A store. After a call of it failed none does anything, since the system may have dropped what it could
 /// not write, and say so once.
 #[derive(Drop)]
-pub(crate) enum Store {
+pub(crate) enum Store<F = File> {
     /// No file was named.
     Unopened,
     /// Octets are appended to the file, which nobody else has locked, and the disk has all of them.
-    Open(File),
+    Open(F),
     /// Octets were appended to it that the disk may not have yet, and so often the wait for it was put off.
-    Pending { file: File, put_off: u32 },
+    Pending { file: F, put_off: u32 },
     /// A call failed.
     Failed,
 }
@@ -47,6 +47,7 @@ impl Store {
         name: &str,
     ) -> Result<(), NextFault>
         ensures ok { OnOk result (is_open self.new ≡ true) }
+        ensures waits { OnOk result (awaits_disk self.new ≡ false) }
         ensures fault { result ≡ Err NextFault.Failed → self.new ≡ Store.Failed }
         ensures memory { result ≡ Err NextFault.NoMemory → self.new ≡ self.old }
         ensures once { self.old ≢ Store.Unopened → result ≡ Err NextFault.Failed }
@@ -73,6 +74,7 @@ impl Store {
         name: &str,
     ) -> Result<(), NextFault>
         ensures ok { OnOk result (is_open self.new ≡ true) }
+        ensures waits { OnOk result (awaits_disk self.new ≡ false) }
         ensures fault { OnErr result (self.new ≡ Store.Failed) }
         ensures memory { result ≢ Err NextFault.NoMemory }
     {
@@ -108,24 +110,6 @@ impl Store {
         }
     }
 
-    /// Appends the octets, which the disk may not have before `sync`. A store that isn't open takes none.
-    /// After an error a front of them may be in the file, and the store has failed.
-    pub(crate) fn append(&mut self, octets: &[u8]) -> io::Result<()>
-        ensures ok { OnOk result (is_open self.old ≡ true) }
-        ensures kept { OnOk result (is_open self.new ≡ true) }
-        ensures waits { OnOk result (awaits_disk self.new ≡ true) }
-        ensures err { OnErr result (self.new ≡ Store.Failed) }
-    {
-        let (mut file, put_off) = match replace(self, Store::Failed) {
-            Store::Open(file) => (file, 0),
-            Store::Pending { file, put_off } => (file, put_off),
-            Store::Unopened | Store::Failed => return Err(self.fail()),
-        };
-        file.write_all(octets)?;
-        *self = Store::Pending { file, put_off };
-        Ok(())
-    }
-
     /// Whether octets were appended that the disk may not have, or that can't be known any more since a call
     /// failed.
     pub(crate) fn awaits_disk(&self) -> bool
@@ -142,6 +126,8 @@ impl Store {
         ensures open { is_open self.new ≡ is_open self.old }
         ensures kept { awaits_disk self.new ≡ awaits_disk self.old }
         ensures awaited { result ≡ true → awaits_disk self.new ≡ true }
+        ensures counted { result ≡ true → put_offs self.new ≡ put_offs self.old + 1 }
+        ensures bounded { result ≡ true → put_offs self.new ≤ 256 }
         ensures failed { self.old ≡ Store.Failed → (result ≡ false) × (self.new ≡ Store.Failed) }
     {
         if let Store::Pending { put_off, .. } = self {
@@ -173,6 +159,28 @@ impl Store {
                 Ok(())
             }
         }
+    }
+}
+
+impl<F: Write + Drop> Store<F> {
+    /// Appends the octets, which the disk may not have before `sync`. A store that isn't open takes none.
+    /// After an error a front of them may be in the file, and the store has failed.
+    pub(crate) fn append(&mut self, octets: &[u8]) -> io::Result<()>
+        ensures ok { OnOk result (is_open self.old ≡ true) }
+        ensures kept { OnOk result (is_open self.new ≡ true) }
+        ensures waits { OnOk result (awaits_disk self.new ≡ true) }
+        ensures put_off { OnOk result (put_offs self.new ≡ put_offs self.old) }
+        ensures grows { OnOk result (GrowsBy F.contents self.old self.new octets.now) }
+        ensures err { OnErr result (self.new ≡ Store.Failed) }
+    {
+        let (mut file, put_off) = match replace(self, Store::Failed) {
+            Store::Open(file) => (file, 0),
+            Store::Pending { file, put_off } => (file, put_off),
+            Store::Unopened | Store::Failed => return Err(self.fail()),
+        };
+        file.write_all(octets)?;
+        *self = Store::Pending { file, put_off };
+        Ok(())
     }
 
     /// The store has failed.

@@ -1,6 +1,6 @@
 //! Whose turn it is to be asked.
 
-ghost use Rattle.std.specs.Prelude.{◌≡◌, ◌≢◌, ℕ, ◌+◌, ◌<◌, true, false, IfSome};
+ghost use Rattle.std.specs.Prelude.{◌≡◌, ◌≢◌, ◌↔◌, ℕ, ◌+◌, ◌<◌, true, false, IfSome};
 ghost use Rattle.mio_link.specs.Places.{has};
 ghost use Rattle.mio_link.specs.Turns.{AreBelow, Gives, IsEmpty};
 
@@ -42,7 +42,7 @@ impl Turns {
 
     /// Whether no place is to be asked.
     pub(crate) fn is_empty(&self) -> bool
-        ensures { result ≡ true → IsEmpty (has self.now.ready) }
+        ensures { (result ≡ true) ↔ IsEmpty (has self.now.ready) }
     {
         self.ready.next(0).is_none()
     }
