@@ -5,8 +5,8 @@
 
 PROGRAM and its first words run the server: `serve FILE ADDRESS` is added. Each try prints a line: that a search is
 answered as it was before, that more than 256 connections are closed, that a client that sends octet by octet is
-answered, that one which never reads, one which resets and ones that send random octets trouble nobody else, and how
-much memory the server took. The status is 1 where something was not as it should be.
+answered, that one which never reads, one which resets and ones that send random octets trouble nobody else, how much
+memory the server took, and whom `--idle` ends. The status is 1 where something was not as it should be.
 """
 
 import os
@@ -33,9 +33,10 @@ def search(number, base, scope):
 
 
 class Server:
-    def __init__(self, words):
+    def __init__(self, words, *options):
         self.port = free_port()
-        self.process = subprocess.Popen(words + ["serve", DATA, "127.0.0.1:%d" % self.port], stdout=subprocess.PIPE)
+        words = [*words, "serve", DATA, "127.0.0.1:%d" % self.port, *options]
+        self.process = subprocess.Popen(words, stdout=subprocess.PIPE)
         self.process.stdout.readline()
 
     def connect(self, seconds=10):
@@ -120,6 +121,21 @@ def reset_in_the_middle(server):
     connection.close()
 
 
+def ends_for_silence(words, *options):
+    """Whether a server with these options ends a client within five seconds of silence behind an answered bind."""
+    server = Server(words, *options)
+    try:
+        with server.connect(5) as connection:
+            connection.sendall(BIND)
+            bound = receive(connection, len(BOUND)) == BOUND
+            try:
+                return bound and connection.recv(1) == b""
+            except socket.timeout:
+                return False
+    finally:
+        server.process.kill()
+
+
 def random_octets(server, connections, size):
     source = random.Random(7)
     for _ in range(connections):
@@ -163,6 +179,8 @@ def main():
         memory = server.memory()
         told("memory stays below 100 MiB", memory < 100, "%.0f MiB at most" % memory)
         told("the server still runs", server.process.poll() is None)
+        told("--idle 1 ends a silent client", ends_for_silence(words, "--idle", "1"))
+        told("without it a silent client stays", not ends_for_silence(words))
     finally:
         server.process.kill()
     sys.exit(1 if faults else 0)
