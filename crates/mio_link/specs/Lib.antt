@@ -7,3 +7,4 @@ pub mod Cutting
 pub mod Numbers
 pub mod Offering
 pub mod Places
+pub mod Sessions

@@ -1,10 +1,11 @@
 //! One connection of the system.
 
-ghost use Rattle.std.specs.Prelude.{◌≡◌, false, ℕ, ◌<◌, ◌≤◌, length, IfSome};
+ghost use Rattle.std.specs.Prelude.{◌≡◌, true, false, ℕ, ◌+◌, ◌<◌, ◌≤◌, [], length, Some, IfSome};
 ghost use Rattle.fair_pieces.specs.Cuts.{cut_at};
 ghost use Rattle.fair_pieces.specs.Keeping.{behind_cut};
 ghost use Rattle.wire_io.specs.Answers.{HeardFits, TookFits};
 ghost use Rattle.mio_link.specs.Cutting.{HearsCut, KeepsCut, EndsAsSaid};
+ghost use Rattle.mio_link.specs.Numbers.{IsOf};
 ghost use Rattle.mio_link.specs.Offering.{Puts};
 
 use crate::moment::Moment;
@@ -76,13 +77,18 @@ impl Connection {
 
     /// Opens it, and gives its number.
     pub(crate) fn open(&mut self) -> u32
-        ensures { result ≡ self.old.number }
+        ensures exact { result ≡ self.old.number }
+        ensures kept { self.new.number ≡ self.old.number }
     {
         self.is_newcomer = false;
         self.number
     }
 
-    pub(crate) fn set_on_hold(&mut self, is_on_hold: bool, now: Moment) {
+    /// Puts it on hold, or releases it.
+    pub(crate) fn set_on_hold(&mut self, is_on_hold: bool, now: Moment)
+        ensures exact { self.new.is_on_hold ≡ is_on_hold }
+        ensures number { self.new.number ≡ self.old.number }
+    {
         if is_on_hold != self.is_on_hold {
             self.is_on_hold = is_on_hold;
             self.is_idle = false;
@@ -98,13 +104,18 @@ impl Connection {
     }
 
     /// Ends it: it is read no more.
-    pub(crate) fn set_ended(&mut self) {
+    pub(crate) fn set_ended(&mut self)
+        ensures { self.new.number ≡ self.old.number }
+    {
         self.is_ended = true;
     }
 
     /// Notes that for so many seconds nothing of it was heard, and says whether there is something to be
     /// heard of that: where nothing is due to it that it ended; on hold that it is lost.
-    pub(crate) fn look(&mut self, second: u64, limit: u64) -> bool {
+    pub(crate) fn look(&mut self, second: u64, limit: u64) -> bool
+        ensures late { result ≡ true → self.old.last.second + limit < second }
+        ensures number { self.new.number ≡ self.old.number }
+    {
         if second.saturating_sub(self.last.second) <= limit {
             return false;
         }
@@ -119,7 +130,9 @@ impl Connection {
 
     /// Notes what the system reports. A connection that failed may be read and written: the call then
     /// says so.
-    pub(crate) fn note(&mut self, event: &Event) {
+    pub(crate) fn note(&mut self, event: &Event)
+        ensures number { self.new.number ≡ self.old.number }
+    {
         if event.is_readable() || event.is_read_closed() || event.is_error() {
             self.may_read = true;
         }
@@ -135,7 +148,9 @@ impl Connection {
     /// octets or its end.
     pub(crate) fn hear(&mut self, now: Moment, buf: &mut [u8]) -> Option<Heard>
         requires room { 0 < length buf.old }
+        ensures whose { IfSome result (IsOf (Some self.new.number)) }
         ensures fits { IfSome result (HeardFits (length buf.new)) }
+        ensures number { self.new.number ≡ self.old.number }
     {
         if self.is_newcomer {
             None
@@ -148,6 +163,8 @@ impl Connection {
 
     /// On hold, that it may take octets again, unless it waits for the disk.
     pub(crate) fn hear_ready(&self) -> Option<Heard>
+        ensures whose { IfSome result (IsOf (Some self.now.number)) }
+        ensures ready { IfSome result (λ heard. (self.now.is_on_hold ≡ true) × (self.now.may_write ≡ true) × (self.now.is_put_off ≡ false)) }
         ensures fits { (len : ℕ) → IfSome result (HeardFits len) }
     {
         if self.is_on_hold && self.may_write && !self.is_put_off {
@@ -161,7 +178,9 @@ impl Connection {
     /// of one that was silent for too long.
     fn listen(&mut self, now: Moment, buf: &mut [u8]) -> Option<Heard>
         requires room { 0 < length buf.old }
+        ensures whose { IfSome result (IsOf (Some self.new.number)) }
         ensures fits { IfSome result (HeardFits (length buf.new)) }
+        ensures number { self.new.number ≡ self.old.number }
     {
         let given = self.kept.give(buf);
         if given > 0 {
@@ -184,7 +203,9 @@ impl Connection {
     /// lost, and its end is heard.
     fn read(&mut self, now: Moment, buf: &mut [u8]) -> Option<Heard>
         requires room { 0 < length buf.old }
+        ensures whose { IfSome result (IsOf (Some self.new.number)) }
         ensures fits { IfSome result (HeardFits (length buf.new)) }
+        ensures number { self.new.number ≡ self.old.number }
     {
         let had = self.kept.copy(buf);
         match self.stream.read(&mut buf[had..]) {
@@ -212,7 +233,10 @@ impl Connection {
     /// What is heard where no octet comes any more: these first, which are all that is kept, and then the
     /// end.
     fn finish(&mut self, octets: &[u8]) -> Heard
+        ensures whose { IsOf (Some self.new.number) result }
+        ensures forgets { 0 < length octets.now → self.new.kept.octets ≡ [] }
         ensures fits { (len : ℕ) → length octets.now ≤ len → HeardFits len result }
+        ensures number { self.new.number ≡ self.old.number }
     {
         if octets.len() > 0 {
             self.kept.forget();
@@ -226,10 +250,12 @@ impl Connection {
     /// cut gives; the others are kept. Where it gives none, more is waited for; where there is no memory to
     /// keep them, the connection ends.
     fn take(&mut self, now: Moment, octets: &[u8]) -> Heard
+        ensures whose { IsOf (Some self.new.number) result }
         ensures cut { HearsCut (cut_at self.old.kept.left octets.now).given result }
         ensures kept { KeepsCut (behind_cut self.old.kept.left octets.now) result self.new.kept }
         ensures ended { EndsAsSaid result self.old.is_ended self.new.is_ended }
         ensures fits { (len : ℕ) → length octets.now ≤ len → HeardFits len result }
+        ensures number { self.new.number ≡ self.old.number }
     {
         self.last = now;
         self.is_idle = false;
@@ -245,14 +271,18 @@ impl Connection {
 
     /// Notes that octets were offered that wait for the disk: until it is let go it isn't heard that it may
     /// take some.
-    pub(crate) fn put_off(&mut self) {
+    pub(crate) fn put_off(&mut self)
+        ensures exact { self.new.is_put_off ≡ true }
+        ensures number { self.new.number ≡ self.old.number }
+    {
         self.is_put_off = true;
     }
 
     /// Lets it go, and says whether it waited for the disk: then it is offered octets again, whatever the
     /// system took of it before.
     pub(crate) fn let_go(&mut self) -> bool
-        ensures { self.new.is_put_off ≡ false }
+        ensures exact { self.new.is_put_off ≡ false }
+        ensures number { self.new.number ≡ self.old.number }
     {
         if !self.is_put_off {
             return false;
@@ -271,6 +301,7 @@ impl<S: Write> Connection<S> {
         requires { 0 < length bytes.now }
         ensures puts { Puts (S.contents self.old.stream) (S.contents self.new.stream) bytes.now result }
         ensures fits { TookFits (length bytes.now) result }
+        ensures number { self.new.number ≡ self.old.number }
     {
         if self.is_lost {
             Took::Gone
@@ -286,6 +317,7 @@ impl<S: Write> Connection<S> {
         requires { 0 < length bytes.now }
         ensures puts { Puts (S.contents self.old.stream) (S.contents self.new.stream) bytes.now result }
         ensures fits { TookFits (length bytes.now) result }
+        ensures number { self.new.number ≡ self.old.number }
     {
         match self.stream.write(bytes) {
             Ok(count) if count > 0 => {

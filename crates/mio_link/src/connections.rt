@@ -1,8 +1,8 @@
 //! The connections of the system, each at a place.
 
-ghost use Rattle.std.specs.Prelude.{◌≡◌, ◌≢◌, ℕ, ◌<◌, length, vec_len, true, false, Some, IfSome, IfNone};
+ghost use Rattle.std.specs.Prelude.{◌≡◌, ◌≢◌, ℕ, ◌<◌, length, position, is_none, true, false, Some, None, IfSome, IfNone};
 ghost use Rattle.wire_io.specs.Answers.{HeardFits, TookFits};
-ghost use Rattle.mio_link.specs.Numbers.{stands, number_at, IsEnd, Ends, is_put_off, is_put_off_at, AreLetGo};
+ghost use Rattle.mio_link.specs.Numbers.{stands, number_of, number_at, IsOf, IsOfOne, IsNowhere, IsFree, AllStand, IsEnd, Ends, SetsHold, hold_of, PutsOff, is_put_off, is_put_off_at, AreLetGo};
 
 use crate::connection::Connection;
 use crate::moment::Moment;
@@ -38,14 +38,15 @@ impl Connections {
 
     /// A free place.
     pub(crate) fn free(&self) -> Option<usize>
-        ensures { IfSome result (λ place. place < vec_len self.now.places) }
+        ensures { IfSome result (IsFree self.now) }
     {
-        self.places.iter().position(|place| place.is_none())
+        free_in(&self.places)
     }
 
     /// Puts the connection at the place.
     pub(crate) fn put(&mut self, place: usize, number: u32, connection: Connection)
-        ensures { place < vec_len self.old.places → number_at self.new place ≡ Some connection.number }
+        ensures exact { place < length self.old.places.items → number_at self.new place ≡ Some connection.number }
+        ensures others { (other : ℕ) → other ≢ place → number_at self.new other ≡ number_at self.old other }
     {
         if let Some(free) = self.places.get_mut(place) {
             *free = Some(connection);
@@ -57,7 +58,8 @@ impl Connections {
 
     /// The place of the connection of the number: first where a number like it was put last.
     fn place_of(&self, number: u32) -> Option<usize>
-        ensures { IfSome result (λ place. number_at self.now place ≡ Some number) }
+        ensures found { IfSome result (λ place. number_at self.now place ≡ Some number) }
+        ensures none { IfNone result (IsNowhere number self.now) }
     {
         let hint = match self.hints.get(number as usize % HINTS) {
             Some(place) => *place,
@@ -66,9 +68,7 @@ impl Connections {
         if self.is_at(hint, number) {
             return Some(hint);
         }
-        self.places
-            .iter()
-            .position(|place| has_number(place, number))
+        place_in(&self.places, number)
     }
 
     fn is_at(&self, place: usize, number: u32) -> bool
@@ -80,24 +80,6 @@ impl Connections {
         }
     }
 
-    /// The connection of the number.
-    fn of(&mut self, number: u32) -> Option<&mut Connection>
-        ensures { IfSome result (λ connection. connection.now.number ≡ number) }
-    {
-        let place = self.place_of(number)?;
-        self.at(place)
-    }
-
-    /// The connection at the place.
-    fn at(&mut self, place: usize) -> Option<&mut Connection>
-        ensures { IfSome result (λ connection. number_at self.old place ≡ Some connection.now.number) }
-    {
-        match self.places.get_mut(place) {
-            Some(found) => found.as_mut(),
-            None => None,
-        }
-    }
-
     /// Puts the connection of the number on hold, or releases it, and gives its place.
     pub(crate) fn set_on_hold(
         &mut self,
@@ -106,17 +88,19 @@ impl Connections {
         now: Moment,
     ) -> Option<usize>
         ensures found { IfSome result (λ place. number_at self.old place ≡ Some number) }
+        ensures exact { SetsHold is_on_hold number self.old self.new }
+        ensures numbers { AllStand self.old self.new }
     {
         let place = self.place_of(number)?;
-        if let Some(connection) = self.at(place) {
-            connection.set_on_hold(is_on_hold, now);
+        if let Some(found) = self.places.get_mut(place) {
+            set_on_hold(found, is_on_hold, now);
         }
         Some(place)
     }
 
     /// Ends the connection of the number, and says whether there was one.
     pub(crate) fn end(&mut self, number: u32) -> bool
-        ensures { Ends number self.old self.new }
+        ensures { Ends result number self.old self.new }
     {
         let Some(place) = self.place_of(number) else {
             return false;
@@ -129,10 +113,12 @@ impl Connections {
 
     /// Opens the connection at the place, and gives its number.
     pub(crate) fn open(&mut self, place: usize) -> Option<u32>
-        ensures { IfSome result (λ number. number_at self.old place ≡ Some number) }
+        ensures found { IfSome result (λ number. number_at self.old place ≡ Some number) }
+        ensures kept { IfSome result (λ number. number_at self.new place ≡ Some number) }
+        ensures numbers { AllStand self.old self.new }
     {
-        match self.at(place) {
-            Some(connection) => Some(connection.open()),
+        match self.places.get_mut(place) {
+            Some(found) => open(found),
             None => None,
         }
     }
@@ -157,41 +143,56 @@ impl Connections {
     /// where there is none.
     pub(crate) fn end_most_silent(&mut self) -> Option<Heard>
         ensures ended { IfSome result IsEnd }
+        ensures whose { IfSome result (IsOfOne self.new) }
         ensures kept { IfNone result (self.new.places.items ≡ self.old.places.items) }
+        ensures numbers { AllStand self.old self.new }
         ensures fits { (len : ℕ) → IfSome result (HeardFits len) }
     {
         let place = self.most_silent()?;
         match self.places.get_mut(place) {
-            Some(Some(connection)) => {
-                connection.set_ended();
-                Some(Heard::Ended(connection.number()))
-            }
-            _ => None,
+            Some(found) => end(found),
+            None => None,
         }
     }
 
     /// Adds the places of which it is to be heard that nothing happened there for more than so many
     /// seconds.
-    pub(crate) fn look_over(&mut self, second: u64, limit: u64, turns: &mut Turns) {
+    pub(crate) fn look_over(&mut self, second: u64, limit: u64, turns: &mut Turns)
+        ensures numbers { AllStand self.old self.new }
+    {
         for place in 0..PLACES {
-            if let Some(connection) = self.at(place) {
-                if connection.look(second, limit) {
-                    turns.add(place);
-                }
+            if self.look_at(place, second, limit) {
+                turns.add(place);
             }
         }
     }
 
+    /// Looks the connection at the place over, and says whether something is to be heard of that.
+    fn look_at(&mut self, place: usize, second: u64, limit: u64) -> bool
+        ensures numbers { AllStand self.old self.new }
+    {
+        match self.places.get_mut(place) {
+            Some(found) => look(found, second, limit),
+            None => false,
+        }
+    }
+
     /// Notes that octets for the connection of the number wait for the disk.
-    pub(crate) fn put_off(&mut self, number: u32) {
-        if let Some(connection) = self.of(number) {
-            connection.put_off();
+    pub(crate) fn put_off(&mut self, number: u32)
+        ensures exact { PutsOff number self.old self.new }
+        ensures numbers { AllStand self.old self.new }
+    {
+        if let Some(place) = self.place_of(number) {
+            if let Some(found) = self.places.get_mut(place) {
+                put_off(found);
+            }
         }
     }
 
     /// Lets the connections go that wait for the disk, and adds their places.
     pub(crate) fn let_go(&mut self, places: &mut Ready)
-        ensures { AreLetGo self.new }
+        ensures exact { AreLetGo self.new }
+        ensures numbers { AllStand self.old self.new }
     {
         for place in 0..PLACES {
             if self.let_go_at(place) {
@@ -204,6 +205,7 @@ impl Connections {
     fn let_go_at(&mut self, place: usize) -> bool
         ensures exact { is_put_off_at self.new place ≡ false }
         ensures others { (other : ℕ) → other ≢ place → is_put_off_at self.new other ≡ is_put_off_at self.old other }
+        ensures numbers { AllStand self.old self.new }
     {
         match self.places.get_mut(place) {
             Some(found) => let_go(found),
@@ -212,48 +214,166 @@ impl Connections {
     }
 
     /// Notes what the system reports of the place.
-    pub(crate) fn note(&mut self, place: usize, event: &Event) {
-        if let Some(connection) = self.at(place) {
-            connection.note(event);
+    pub(crate) fn note(&mut self, place: usize, event: &Event)
+        ensures numbers { AllStand self.old self.new }
+    {
+        if let Some(found) = self.places.get_mut(place) {
+            note(found, event);
         }
     }
 
     /// What is to be heard of the place now.
     pub(crate) fn hear(&mut self, place: usize, now: Moment, buf: &mut [u8]) -> Option<Heard>
         requires room { 0 < length buf.old }
+        ensures whose { IfSome result (IsOf (number_at self.new place)) }
         ensures fits { IfSome result (HeardFits (length buf.new)) }
+        ensures numbers { AllStand self.old self.new }
     {
-        match self.at(place) {
-            Some(connection) => connection.hear(now, buf),
+        match self.places.get_mut(place) {
+            Some(found) => hear(found, now, buf),
             None => None,
         }
     }
 
     /// Whether it is to be heard of the place that its connection, on hold, may take octets again.
-    pub(crate) fn hear_ready(&mut self, place: usize) -> Option<Heard>
+    pub(crate) fn hear_ready(&self, place: usize) -> Option<Heard>
+        ensures whose { IfSome result (IsOf (number_at self.now place)) }
         ensures fits { (len : ℕ) → IfSome result (HeardFits len) }
     {
-        match self.at(place) {
-            Some(connection) => connection.hear_ready(),
-            None => None,
+        match self.places.get(place) {
+            Some(Some(connection)) => connection.hear_ready(),
+            _ => None,
         }
     }
 
     /// Offers octets for the connection of the number; one that isn't there is lost.
     pub(crate) fn write(&mut self, number: u32, now: Moment, bytes: &[u8]) -> Took
         requires { 0 < length bytes.now }
+        ensures nowhere { IsNowhere number self.old → result ≡ Took.Gone }
         ensures fits { TookFits (length bytes.now) result }
+        ensures numbers { AllStand self.old self.new }
     {
-        match self.of(number) {
-            Some(connection) => connection.write(now, bytes),
+        let Some(place) = self.place_of(number) else {
+            return Took::Gone;
+        };
+        match self.places.get_mut(place) {
+            Some(found) => write(found, now, bytes),
             None => Took::Gone,
         }
     }
 }
 
+/// The first free place.
+fn free_in(places: &[Option<Connection>]) -> Option<usize>
+    ensures exact { result ≡ position is_none places.now }
+{
+    places.iter().position(|place| place.is_none())
+}
+
+/// The first place of a connection of the number.
+fn place_in(places: &[Option<Connection>], number: u32) -> Option<usize>
+    ensures exact { result ≡ position (stands number) places.now }
+{
+    places.iter().position(|place| has_number(place, number))
+}
+
+/// Looks the connection at the place over, and says whether something is to be heard of that.
+fn look(place: &mut Option<Connection>, second: u64, limit: u64) -> bool
+    ensures number { number_of place.new ≡ number_of place.old }
+{
+    match place {
+        Some(connection) => connection.look(second, limit),
+        None => false,
+    }
+}
+
+/// Notes what the system reports of the connection at the place.
+fn note(place: &mut Option<Connection>, event: &Event)
+    ensures number { number_of place.new ≡ number_of place.old }
+{
+    if let Some(connection) = place {
+        connection.note(event);
+    }
+}
+
+/// Offers octets for the connection at the place.
+fn write(place: &mut Option<Connection>, now: Moment, bytes: &[u8]) -> Took
+    requires { 0 < length bytes.now }
+    ensures fits { TookFits (length bytes.now) result }
+    ensures number { number_of place.new ≡ number_of place.old }
+{
+    match place {
+        Some(connection) => connection.write(now, bytes),
+        None => Took::Gone,
+    }
+}
+
+/// Puts the connection at the place on hold, or releases it.
+fn set_on_hold(place: &mut Option<Connection>, is_on_hold: bool, now: Moment)
+    ensures exact { number_of place.old ≢ None → hold_of place.new ≡ Some is_on_hold }
+    ensures number { number_of place.new ≡ number_of place.old }
+{
+    if let Some(connection) = place {
+        connection.set_on_hold(is_on_hold, now);
+    }
+}
+
+/// Notes that octets for the connection at the place wait for the disk.
+fn put_off(place: &mut Option<Connection>)
+    ensures exact { number_of place.old ≢ None → is_put_off place.new ≡ true }
+    ensures number { number_of place.new ≡ number_of place.old }
+{
+    if let Some(connection) = place {
+        connection.put_off();
+    }
+}
+
+/// Opens the connection at the place, and gives its number.
+fn open(place: &mut Option<Connection>) -> Option<u32>
+    ensures found { IfSome result (λ number. number_of place.old ≡ Some number) }
+    ensures kept { IfSome result (λ number. number_of place.new ≡ Some number) }
+    ensures number { number_of place.new ≡ number_of place.old }
+{
+    match place {
+        Some(connection) => Some(connection.open()),
+        None => None,
+    }
+}
+
+/// What is to be heard of the connection at the place now.
+fn hear(place: &mut Option<Connection>, now: Moment, buf: &mut [u8]) -> Option<Heard>
+    requires room { 0 < length buf.old }
+    ensures whose { IfSome result (IsOf (number_of place.new)) }
+    ensures fits { IfSome result (HeardFits (length buf.new)) }
+    ensures number { number_of place.new ≡ number_of place.old }
+{
+    match place {
+        Some(connection) => connection.hear(now, buf),
+        None => None,
+    }
+}
+
+/// Ends the connection at the place, and says so.
+fn end(place: &mut Option<Connection>) -> Option<Heard>
+    ensures ended { IfSome result IsEnd }
+    ensures whose { IfSome result (IsOf (number_of place.new)) }
+    ensures kept { IfNone result (place.new ≡ place.old) }
+    ensures number { number_of place.new ≡ number_of place.old }
+    ensures fits { (len : ℕ) → IfSome result (HeardFits len) }
+{
+    match place {
+        Some(connection) => {
+            connection.set_ended();
+            Some(Heard::Ended(connection.number()))
+        }
+        None => None,
+    }
+}
+
 /// Lets the connection at the place go, and says whether it waited for the disk.
 fn let_go(place: &mut Option<Connection>) -> bool
-    ensures { is_put_off place.new ≡ false }
+    ensures exact { is_put_off place.new ≡ false }
+    ensures number { number_of place.new ≡ number_of place.old }
 {
     match place {
         Some(connection) => connection.let_go(),

@@ -1,13 +1,13 @@
 //! The link over the system's sockets, and a file of the system.
 
-ghost use Rattle.std.specs.Prelude.{◌≡◌, ◌≢◌, ◌<◌, length, true, false, Err, IfOk, OnOk, OnErr};
+ghost use Rattle.std.specs.Prelude.{◌≡◌, ◌≢◌, ◌⊎◌, ◌<◌, length, true, false, Ok, Err, IfOk, OnOk, OnErr};
 ghost use Rattle.plain_values.specs.Counts.{NeverFalls};
 ghost use Rattle.wire_io.specs.declared.journal.Item.{Item};
 ghost use Rattle.wire_io.specs.Answers.{HeardFits, TookFits, LinkCause, WriteCause, RefusalCause, WriteRefusal, NoteRefusal};
 ghost use Rattle.wire_io.specs.Playing.{NextPlays};
 ghost use Rattle.wire_io.specs.link.Telling.{OpenTells, StoreOpenTells, NextTells, TookTells, NoteTells};
 ghost use Rattle.mio_link.specs.Store.{awaits_disk};
-ghost use Rattle.mio_link.specs.SystemLink.{link_faults, store_faults, lost_connections, refused_calls, has_store, waits_for_disk, times_put_off, IsPutOffOnce, NoneWaits, HangsUp, StoreFailed, StoreStays};
+ghost use Rattle.mio_link.specs.SystemLink.{link_faults, store_faults, lost_connections, refused_calls, has_store, waits_for_disk, times_put_off, IsPutOffOnce, NoneWaits, HangsUp, Holds, Defers, HasNone, IsDone, IsOfLink, KeepsBounds, KeepsConnections, KeepsEach, sessions_of, ended_of, idle_of, StoreFailed, StoreStays};
 
 use crate::sockets::Sockets;
 use crate::store::Store;
@@ -42,6 +42,7 @@ impl<R: Net + Drop> MioLink<R> {
     pub fn new(rt: R, alloc: Global) -> Result<MioLink<R>, NoMemory>
         ensures fresh { IfOk result (λ link. (link_faults link ≡ 0) × (store_faults link ≡ 0) × (lost_connections link ≡ 0) × (refused_calls link ≡ 0)) }
         ensures store { IfOk result (λ link. (has_store link ≡ false) × (waits_for_disk link ≡ false)) }
+        ensures bounds { IfOk result (λ link. (sessions_of link ≡ 0) × (ended_of link ≡ 0) × (idle_of link ≡ 0)) }
     {
         Ok(MioLink {
             rt,
@@ -59,11 +60,15 @@ impl<R> MioLink<R> {
     /// Offers octets for the connection, but none before the disk has all that was stored.
     fn offer(&mut self, conn: u32, bytes: &[u8]) -> Took
         requires { 0 < length bytes.now }
+        ensures deferred { awaits_disk self.old.store ≡ true → Defers conn self.old self.new }
+        ensures nowhere { awaits_disk self.old.store ≡ false → HasNone conn self.old → result ≡ Took.Gone }
         ensures later { awaits_disk self.old.store ≡ true → result ≡ Took.Later }
         ensures fits { TookFits (length bytes.now) result }
         // what stays
         ensures counts { (self.new.faults ≡ self.old.faults) × (self.new.store_faults ≡ self.old.store_faults) × (self.new.lost ≡ self.old.lost) × (self.new.refusals ≡ self.old.refusals) }
         ensures store { self.new.store ≡ self.old.store }
+        ensures bounds { KeepsBounds self.old self.new }
+        ensures connections { KeepsConnections self.old self.new }
     {
         if self.store.awaits_disk() {
             self.sockets.put_off(conn)
@@ -90,11 +95,14 @@ impl<R: Net + Clock + Files<File = File>> Link for MioLink<R> {
 
     /// The clock is the runtime's; where it can't be read no connection is idle.
     fn end_idle_after(&mut self, seconds: u64)
+        ensures idle { idle_of self.new ≡ seconds }
         ensures faults { link_faults self.new ≡ link_faults self.old }
         ensures store_faults { store_faults self.new ≡ store_faults self.old }
         ensures lost { lost_connections self.new ≡ lost_connections self.old }
         ensures refusals { refused_calls self.new ≡ refused_calls self.old }
         ensures store { StoreStays self.old self.new }
+        ensures sessions { (sessions_of self.new ≡ sessions_of self.old) × (ended_of self.new ≡ ended_of self.old) }
+        ensures connections { KeepsConnections self.old self.new }
     {
         self.sockets.end_idle_after(seconds);
     }
@@ -102,6 +110,7 @@ impl<R: Net + Clock + Files<File = File>> Link for MioLink<R> {
     /// Listens at the address, an IP address and a port.
     #[tactic(auto, unfolding(wire_io::specs::link::Telling::OpenTells, wire_io::specs::Answers::LinkCause, wire_io::specs::Answers::RefusalCause, wire_io::specs::Answers::IsPlanned))]
     fn open(&mut self, address: &str, sessions: u64) -> Result<(), NextFault>
+        ensures sessions { OnOk result (sessions_of self.new ≡ sessions) }
         ensures tells { OpenTells None address.now sessions result None }
         ensures cause { LinkCause None (link_faults self.old) (link_faults self.new) result }
         ensures refusals { RefusalCause (refused_calls self.old) (refused_calls self.new) result }
@@ -109,6 +118,8 @@ impl<R: Net + Clock + Files<File = File>> Link for MioLink<R> {
         ensures store_faults { store_faults self.new ≡ store_faults self.old }
         ensures lost { NeverFalls (lost_connections self.old) (lost_connections self.new) }
         ensures store { StoreStays self.old self.new }
+        ensures bounds { (ended_of self.new ≡ ended_of self.old) × (idle_of self.new ≡ idle_of self.old) }
+        ensures connections { KeepsConnections self.old self.new }
     {
         match self.sockets.open(&self.rt, address, sessions) {
             Ok(()) => Ok(()),
@@ -139,6 +150,8 @@ impl<R: Net + Clock + Files<File = File>> Link for MioLink<R> {
         ensures refused { result ≢ Err NextFault.NoMemory → refused_calls self.new ≡ refused_calls self.old }
         ensures faults { link_faults self.new ≡ link_faults self.old }
         ensures lost { NeverFalls (lost_connections self.old) (lost_connections self.new) }
+        ensures bounds { KeepsBounds self.old self.new }
+        ensures connections { KeepsConnections self.old self.new }
     {
         match self.store.open(&self.rt, name) {
             Ok(()) => Ok(()),
@@ -167,6 +180,8 @@ impl<R: Net + Clock + Files<File = File>> Link for MioLink<R> {
         ensures refused { result ≢ Err NextFault.NoMemory → refused_calls self.new ≡ refused_calls self.old }
         ensures faults { link_faults self.new ≡ link_faults self.old }
         ensures lost { NeverFalls (lost_connections self.old) (lost_connections self.new) }
+        ensures bounds { KeepsBounds self.old self.new }
+        ensures connections { KeepsConnections self.old self.new }
     {
         match self.store.cut(length) {
             Ok(()) => Ok(()),
@@ -193,6 +208,8 @@ impl<R: Net + Clock + Files<File = File>> Link for MioLink<R> {
         ensures refused { result ≢ Err NextFault.NoMemory → refused_calls self.new ≡ refused_calls self.old }
         ensures faults { link_faults self.new ≡ link_faults self.old }
         ensures lost { NeverFalls (lost_connections self.old) (lost_connections self.new) }
+        ensures bounds { KeepsBounds self.old self.new }
+        ensures connections { KeepsConnections self.old self.new }
     {
         match self.store.append(octets) {
             Ok(()) => Ok(()),
@@ -219,6 +236,8 @@ impl<R: Net + Clock + Files<File = File>> Link for MioLink<R> {
         ensures refused { result ≢ Err NextFault.NoMemory → refused_calls self.new ≡ refused_calls self.old }
         ensures faults { link_faults self.new ≡ link_faults self.old }
         ensures lost { NeverFalls (lost_connections self.old) (lost_connections self.new) }
+        ensures bounds { KeepsBounds self.old self.new }
+        ensures connections { KeepsConnections self.old self.new }
     {
         if !self.store.awaits_disk() || (self.sockets.have_some() && self.store.put_off()) {
             return Ok(());
@@ -240,6 +259,8 @@ impl<R: Net + Clock + Files<File = File>> Link for MioLink<R> {
     #[tactic(auto, unfolding(wire_io::specs::link::Telling::NextTells, wire_io::specs::Playing::NextPlays, wire_io::specs::Answers::LinkCause, wire_io::specs::Answers::RefusalCause, wire_io::specs::Answers::IsPlanned))]
     fn next(&mut self, buf: &mut [u8]) -> Result<Heard, NextFault>
         requires { 0 < length buf.old }
+        ensures done { IsDone self.old → result ≡ Ok Heard.Stop }
+        ensures whose { IfOk result (λ heard. IsDone self.old ⊎ IsOfLink self.new heard) }
         ensures fits { IfOk result (HeardFits (length buf.new)) }
         ensures tells { NextTells None buf.new result None }
         ensures plays { NextPlays None None buf.new result None }
@@ -249,6 +270,8 @@ impl<R: Net + Clock + Files<File = File>> Link for MioLink<R> {
         ensures store_faults { store_faults self.new ≡ store_faults self.old }
         ensures lost { NeverFalls (lost_connections self.old) (lost_connections self.new) }
         ensures store { StoreStays self.old self.new }
+        ensures bounds { KeepsBounds self.old self.new }
+        ensures connections { KeepsEach self.old self.new }
     {
         if self.sockets.are_done() {
             return Ok(Heard::Stop);
@@ -273,6 +296,8 @@ impl<R: Net + Clock + Files<File = File>> Link for MioLink<R> {
     #[tactic(auto, unfolding(wire_io::specs::link::Telling::TookTells, wire_io::specs::Answers::WriteCause, wire_io::specs::Answers::WriteRefusal, wire_io::specs::Answers::IsPlanned))]
     fn write(&mut self, conn: u32, bytes: &[u8]) -> Took
         requires { 0 < length bytes.now }
+        ensures deferred { waits_for_disk self.old ≡ true → Defers conn self.old self.new }
+        ensures nowhere { waits_for_disk self.old ≡ false → HasNone conn self.old → result ≡ Took.Gone }
         ensures later { waits_for_disk self.old ≡ true → result ≡ Took.Later }
         ensures fits { TookFits (length bytes.now) result }
         ensures tells { TookTells None conn bytes.now result None }
@@ -283,6 +308,8 @@ impl<R: Net + Clock + Files<File = File>> Link for MioLink<R> {
         ensures faults { link_faults self.new ≡ link_faults self.old }
         ensures store_faults { store_faults self.new ≡ store_faults self.old }
         ensures store { StoreStays self.old self.new }
+        ensures bounds { KeepsBounds self.old self.new }
+        ensures connections { KeepsConnections self.old self.new }
     {
         let took = self.offer(conn, bytes);
         match took {
@@ -295,12 +322,15 @@ impl<R: Net + Clock + Files<File = File>> Link for MioLink<R> {
 
     #[tactic(auto, unfolding(wire_io::specs::link::Telling::NoteTells, wire_io::specs::Answers::NoteRefusal))]
     fn hold(&mut self, conn: u32) -> Result<(), NoMemory>
+        ensures held { Holds true conn self.old self.new }
         ensures tells { NoteTells None (Item.Held conn) result None }
         ensures refusals { NoteRefusal (refused_calls self.old) (refused_calls self.new) result }
         ensures faults { link_faults self.new ≡ link_faults self.old }
         ensures store_faults { store_faults self.new ≡ store_faults self.old }
         ensures lost { NeverFalls (lost_connections self.old) (lost_connections self.new) }
         ensures store { StoreStays self.old self.new }
+        ensures bounds { KeepsBounds self.old self.new }
+        ensures connections { KeepsConnections self.old self.new }
     {
         self.sockets.set_on_hold(conn, true);
         Ok(())
@@ -308,12 +338,15 @@ impl<R: Net + Clock + Files<File = File>> Link for MioLink<R> {
 
     #[tactic(auto, unfolding(wire_io::specs::link::Telling::NoteTells, wire_io::specs::Answers::NoteRefusal))]
     fn release(&mut self, conn: u32) -> Result<(), NoMemory>
+        ensures released { Holds false conn self.old self.new }
         ensures tells { NoteTells None (Item.Released conn) result None }
         ensures refusals { NoteRefusal (refused_calls self.old) (refused_calls self.new) result }
         ensures faults { link_faults self.new ≡ link_faults self.old }
         ensures store_faults { store_faults self.new ≡ store_faults self.old }
         ensures lost { NeverFalls (lost_connections self.old) (lost_connections self.new) }
         ensures store { StoreStays self.old self.new }
+        ensures bounds { KeepsBounds self.old self.new }
+        ensures connections { KeepsConnections self.old self.new }
     {
         self.sockets.set_on_hold(conn, false);
         Ok(())
@@ -328,6 +361,7 @@ impl<R: Net + Clock + Files<File = File>> Link for MioLink<R> {
         ensures store_faults { store_faults self.new ≡ store_faults self.old }
         ensures lost { NeverFalls (lost_connections self.old) (lost_connections self.new) }
         ensures store { StoreStays self.old self.new }
+        ensures bounds { (sessions_of self.new ≡ sessions_of self.old) × (idle_of self.new ≡ idle_of self.old) }
     {
         self.sockets.hang_up(conn);
         Ok(())

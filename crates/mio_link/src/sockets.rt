@@ -1,9 +1,10 @@
 //! All sockets of a link: events are found by going around the places of which something may be heard,
 //! the listening socket being one place beside those of connections.
 
-ghost use Rattle.std.specs.Prelude.{◌≡◌, ℕ, ◌<◌, length, IfOk, IfSome};
+ghost use Rattle.std.specs.Prelude.{◌≡◌, ◌↔◌, ℕ, ◌<◌, length, true, IfOk, OnOk, IfSome};
 ghost use Rattle.wire_io.specs.Answers.{HeardFits, TookFits};
-ghost use Rattle.mio_link.specs.Numbers.{number_at, AreLetGo, Ends, IsOpenedAs, TakesNext};
+ghost use Rattle.mio_link.specs.Numbers.{number_at, AllStand, AreLetGo, IsNowhere, IsOfOne, IsOpenedAs, PutsOff, SetsHold, Stand, TakesNext, WaitsFor};
+ghost use Rattle.mio_link.specs.Sessions.{HadSessions, IsHungUp, BoundsStay};
 
 use crate::connection::Connection;
 use crate::connections::{Connections, PLACES};
@@ -12,6 +13,7 @@ use crate::ready::Ready;
 use crate::server::{LISTENER, Server};
 use crate::turns::Turns;
 use mio::Events;
+use plain_values::raised;
 use std::alloc::{AllocError, Global};
 use std::io;
 use std::io::ErrorKind;
@@ -56,7 +58,9 @@ pub(crate) struct Sockets {
 
 impl Sockets {
     /// No socket is open. Later calls take no memory of their own.
-    pub(crate) fn new(alloc: Global) -> Result<Sockets, AllocError> {
+    pub(crate) fn new(alloc: Global) -> Result<Sockets, AllocError>
+        ensures { IfOk result (λ sockets. (sockets.sessions ≡ 0) × (sockets.ended ≡ 0) × (sockets.idle ≡ 0)) }
+    {
         Ok(Sockets {
             alloc,
             server: None,
@@ -77,12 +81,18 @@ impl Sockets {
     }
 
     /// Has connections ended that are idle for more than so many seconds.
-    pub(crate) fn end_idle_after(&mut self, seconds: u64) {
+    pub(crate) fn end_idle_after(&mut self, seconds: u64)
+        ensures { self.new ≡ record self.old { idle = seconds } }
+    {
         self.idle = seconds;
     }
 
     /// Listens at the address, an IP address and a port, for so many sessions. Sockets open once.
-    pub(crate) fn open<R: Net>(&mut self, rt: &R, address: &str, sessions: u64) -> io::Result<()> {
+    pub(crate) fn open<R: Net>(&mut self, rt: &R, address: &str, sessions: u64) -> io::Result<()>
+        ensures sessions { OnOk result (self.new.sessions ≡ sessions) }
+        ensures bounds { (self.new.ended ≡ self.old.ended) × (self.new.idle ≡ self.old.idle) }
+        ensures numbers { AllStand self.old.connections self.new.connections }
+    {
         if self.server.is_some() {
             return Err(io::Error::from(ErrorKind::AddrInUse));
         }
@@ -95,7 +105,9 @@ impl Sockets {
     }
 
     /// Whether as many connections ended as there were to be sessions.
-    pub(crate) fn are_done(&self) -> bool {
+    pub(crate) fn are_done(&self) -> bool
+        ensures { (result ≡ true) ↔ HadSessions self.entry.now }
+    {
         self.sessions > 0 && self.sessions <= self.ended
     }
 
@@ -114,7 +126,10 @@ impl Sockets {
         buf: &mut [u8],
     ) -> io::Result<Heard>
         requires room { 0 < length buf.old }
+        ensures whose { IfOk result (IsOfOne self.new.connections) }
         ensures fits { IfOk result (HeardFits (length buf.new)) }
+        ensures bounds { BoundsStay self.old self.new }
+        ensures stand { Stand self.old.connections self.new.connections }
     {
         if self.heard >= EVENTS || self.is_late(rt) {
             self.look(rt)?;
@@ -150,7 +165,10 @@ impl Sockets {
     /// nothing is to be heard isn't asked again before it is reported or changed.
     fn hear(&mut self, buf: &mut [u8]) -> Option<Heard>
         requires room { 0 < length buf.old }
+        ensures whose { IfSome result (IsOfOne self.new.connections) }
         ensures fits { IfSome result (HeardFits (length buf.new)) }
+        ensures bounds { BoundsStay self.old self.new }
+        ensures stand { Stand self.old.connections self.new.connections }
     {
         self.heard = self.heard.saturating_add(1);
         self.now.turn = self.now.turn.saturating_add(1);
@@ -169,7 +187,10 @@ impl Sockets {
 
     /// Of the connections that were let go, the next that is still on hold may take octets.
     fn hear_let_go(&mut self) -> Option<Heard>
+        ensures whose { IfSome result (IsOfOne self.new.connections) }
         ensures fits { (len : ℕ) → IfSome result (HeardFits len) }
+        ensures bounds { BoundsStay self.old self.new }
+        ensures numbers { AllStand self.old.connections self.new.connections }
     {
         for _ in 0..PLACES {
             let place = self.untold.next(0)?;
@@ -185,7 +206,10 @@ impl Sockets {
     /// What is to be heard of the place now.
     fn ask(&mut self, place: usize, buf: &mut [u8]) -> Option<Heard>
         requires room { 0 < length buf.old }
+        ensures whose { IfSome result (IsOfOne self.new.connections) }
         ensures fits { IfSome result (HeardFits (length buf.new)) }
+        ensures bounds { BoundsStay self.old self.new }
+        ensures stand { Stand self.old.connections self.new.connections }
     {
         if place != LISTENER {
             return self.connections.hear(place, self.now, buf);
@@ -201,7 +225,11 @@ impl Sockets {
     /// due; the other is opened once a place is free.
     fn accept(&mut self) -> Option<Heard>
         ensures number { IfSome result (TakesNext self.old.number self.new.number) }
+        ensures waits { IfSome result (WaitsFor self.old.number self.new.newcomer self.new.connections) }
+        ensures whose { IfSome result (IsOfOne self.new.connections) }
         ensures fits { (len : ℕ) → IfSome result (HeardFits len) }
+        ensures bounds { BoundsStay self.old self.new }
+        ensures stand { Stand self.old.connections self.new.connections }
     {
         let number = self.number?;
         let place = self.connections.free()?;
@@ -220,7 +248,10 @@ impl Sockets {
 
     /// Opens the connection that waits at the place, once another place is free.
     fn admit(&mut self, place: usize) -> Option<Heard>
+        ensures whose { IfSome result (IsOfOne self.new.connections) }
         ensures fits { (len : ℕ) → IfSome result (HeardFits len) }
+        ensures bounds { BoundsStay self.old self.new }
+        ensures numbers { AllStand self.old.connections self.new.connections }
     {
         self.connections.free()?;
         self.newcomer = None;
@@ -231,8 +262,11 @@ impl Sockets {
     /// Opens the connection at the place.
     fn open_at(&mut self, place: usize) -> Option<Heard>
         ensures opened { IfSome result (IsOpenedAs (number_at self.old.connections place)) }
+        ensures whose { IfSome result (IsOfOne self.new.connections) }
         ensures number { self.new.number ≡ self.old.number }
         ensures fits { (len : ℕ) → IfSome result (HeardFits len) }
+        ensures bounds { BoundsStay self.old self.new }
+        ensures numbers { AllStand self.old.connections self.new.connections }
     {
         match self.connections.open(place) {
             Some(number) => Some(Heard::Opened(number)),
@@ -241,7 +275,10 @@ impl Sockets {
     }
 
     /// Waits for the system's reports.
-    fn wait<R: Clock>(&mut self, rt: &R) -> io::Result<()> {
+    fn wait<R: Clock>(&mut self, rt: &R) -> io::Result<()>
+        ensures bounds { BoundsStay self.old self.new }
+        ensures numbers { AllStand self.old.connections self.new.connections }
+    {
         match &mut self.server {
             Some(server) => server.wait(&mut self.events, self.idle > 0)?,
             None => return Err(io::Error::from(ErrorKind::NotConnected)),
@@ -252,7 +289,10 @@ impl Sockets {
     }
 
     /// Takes the system's reports that are there.
-    fn look<R: Clock>(&mut self, rt: &R) -> io::Result<()> {
+    fn look<R: Clock>(&mut self, rt: &R) -> io::Result<()>
+        ensures bounds { BoundsStay self.old self.new }
+        ensures numbers { AllStand self.old.connections self.new.connections }
+    {
         match &mut self.server {
             Some(server) => server.look(&mut self.events)?,
             None => return Err(io::Error::from(ErrorKind::NotConnected)),
@@ -263,23 +303,26 @@ impl Sockets {
     }
 
     /// Notes all of the system's reports.
-    fn note(&mut self) {
+    fn note(&mut self)
+        ensures bounds { BoundsStay self.old self.new }
+        ensures numbers { AllStand self.old.connections self.new.connections }
+    {
         self.heard = 0;
-        for event in self.events.iter() {
-            let place = event.token().0;
-            self.turns.add(place);
-            if place < PLACES {
-                self.connections.note(place, event);
-            } else if let Some(server) = &mut self.server {
-                server.note(event);
-            }
-        }
+        note_all(
+            &self.events,
+            &mut self.turns,
+            &mut self.connections,
+            &mut self.server,
+        );
         self.listen();
     }
 
     /// Reads the clock, and looks connections over once a second where their idle time has a bound. Where the
     /// clock can't be read none is idle.
-    fn tick<R: Clock>(&mut self, rt: &R) {
+    fn tick<R: Clock>(&mut self, rt: &R)
+        ensures bounds { BoundsStay self.old self.new }
+        ensures numbers { AllStand self.old.connections self.new.connections }
+    {
         self.looked = Instant::now(rt).ok();
         let Some(instant) = self.looked else {
             return;
@@ -298,7 +341,8 @@ impl Sockets {
 
     /// Has the listening socket asked where connections may wait.
     fn listen(&mut self)
-        ensures { self.new.connections ≡ self.old.connections }
+        ensures connections { self.new.connections ≡ self.old.connections }
+        ensures bounds { BoundsStay self.old self.new }
     {
         let may_accept = match &self.server {
             Some(server) => server.may_accept(),
@@ -312,7 +356,10 @@ impl Sockets {
     /// Offers octets for the connection.
     pub(crate) fn write(&mut self, number: u32, bytes: &[u8]) -> Took
         requires { 0 < length bytes.now }
+        ensures nowhere { IsNowhere number self.old.connections → result ≡ Took.Gone }
         ensures fits { TookFits (length bytes.now) result }
+        ensures bounds { BoundsStay self.old self.new }
+        ensures numbers { AllStand self.old.connections self.new.connections }
     {
         self.connections.write(number, self.now, bytes)
     }
@@ -320,6 +367,9 @@ impl Sockets {
     /// Takes no octets for the connection now, since the disk is waited for.
     pub(crate) fn put_off(&mut self, number: u32) -> Took
         ensures later { result ≡ Took.Later }
+        ensures exact { PutsOff number self.old.connections self.new.connections }
+        ensures bounds { BoundsStay self.old self.new }
+        ensures numbers { AllStand self.old.connections self.new.connections }
     {
         self.connections.put_off(number);
         Took::Later
@@ -328,13 +378,19 @@ impl Sockets {
     /// Lets the connections go for which octets were put off: those on hold are told first that they may take
     /// some.
     pub(crate) fn let_go(&mut self)
-        ensures { AreLetGo self.new.connections }
+        ensures exact { AreLetGo self.new.connections }
+        ensures bounds { BoundsStay self.old self.new }
+        ensures numbers { AllStand self.old.connections self.new.connections }
     {
         self.connections.let_go(&mut self.untold);
     }
 
     /// Puts the connection on hold, or releases it.
-    pub(crate) fn set_on_hold(&mut self, number: u32, is_on_hold: bool) {
+    pub(crate) fn set_on_hold(&mut self, number: u32, is_on_hold: bool)
+        ensures exact { SetsHold is_on_hold number self.old.connections self.new.connections }
+        ensures bounds { BoundsStay self.old self.new }
+        ensures numbers { AllStand self.old.connections self.new.connections }
+    {
         if let Some(place) = self.connections.set_on_hold(number, is_on_hold, self.now) {
             self.turns.add(place);
         }
@@ -342,11 +398,32 @@ impl Sockets {
 
     /// Ends the connection.
     pub(crate) fn hang_up(&mut self, number: u32)
-        ensures { Ends number self.old.connections self.new.connections }
+        ensures exact { IsHungUp number self.old self.new }
+        ensures bounds { (self.new.sessions ≡ self.old.sessions) × (self.new.idle ≡ self.old.idle) }
     {
         if self.connections.end(number) {
-            self.ended = self.ended.saturating_add(1);
+            self.ended = raised(self.ended);
             self.listen();
+        }
+    }
+}
+
+/// Notes reports of the system.
+fn note_all(
+    events: &Events,
+    turns: &mut Turns,
+    connections: &mut Connections,
+    server: &mut Option<Server>,
+)
+    ensures numbers { AllStand connections.old connections.new }
+{
+    for event in events.iter() {
+        let place = event.token().0;
+        turns.add(place);
+        if place < PLACES {
+            connections.note(place, event);
+        } else if let Some(server) = server {
+            server.note(event);
         }
     }
 }
