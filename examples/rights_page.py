@@ -9,8 +9,8 @@ the requester may do with the entry, and opens to the table of its rights, with 
 the entry and of reading each of its attributes. All of it can be reached by the keyboard alone: Tab goes from cell to
 cell, Enter opens one and Escape closes it.
 
-FILE is the program, `aclserver` at the top without the option. It is asked for each cell and each attribute, and reads
-DATA each time: the page is for trees of some hundred entries.
+FILE is the program, and without the option that which `aclserver` at the top builds where it was not built yet. It is
+asked for each cell and each attribute, and reads DATA each time: the page is for trees of some hundred entries.
 """
 
 import base64
@@ -72,6 +72,13 @@ def run(program, *words):
     if ran.returncode:
         sys.exit(f"{' '.join(words)}: {(ran.stdout or ran.stderr).decode(errors='replace').strip()}")
     return ran.stdout.decode(errors="replace")
+
+
+def built():
+    """The program, which the launcher has built. The launcher sums up all sources in each call, so it is called once."""
+    if subprocess.run([TOP / "aclserver", "--version"], stdout=subprocess.DEVNULL).returncode:
+        sys.exit(1)
+    return str(TOP / "crates/aclserver/out/aclserver")
 
 
 def names_of(program, data):
@@ -164,12 +171,13 @@ def page(data, names, whose, cells):
 
 
 def main(words):
-    program = str(TOP / "aclserver")
+    program = None
     if words[:1] == ["--program"]:
         program, words = words[1], words[2:]
     if len(words) < 2:
         sys.exit(__doc__)
     data, whose = words[0], words[1:]
+    program = program or built()
     names = names_of(program, data)
     asked = [(name, who) for name in names for who in whose]
     with concurrent.futures.ThreadPoolExecutor(os.cpu_count()) as runs:
